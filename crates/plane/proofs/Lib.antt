@@ -1,0 +1,13 @@
+pub mod Terms
+pub mod Integers
+pub mod Slopes
+pub mod Division
+pub mod Crossing
+pub mod Collinear
+pub mod Boxes
+pub mod Clipping
+pub mod Answers
+pub mod Orientations
+pub mod Segments
+pub mod Rectangles
+pub mod Containment

@@ -1,0 +1,89 @@
+-- The turn of three grid points, by the sign of their determinant.
+use Prim.Native.Nat.{ℕ, zero, suc}
+use native.Mathlib.Omega.{arith}
+use lib.IntN.{ℤ, pos, negsuc, _-ℤ_, _*ℤ_}
+use lib.Signed.{_≤ℤ_, _<ℤ_}
+use mathlib.Core.Path.{_≡_, refl, sym, ap, _∙_}
+use mathlib.Core.Logic.{_⊎_, inl, inr}
+use Rattle.std.proofs.shelf.Signed.{ints}
+use Rattle.plane.specs.declared.grid_point.GridPoint.{GridPoint}
+use Rattle.plane.specs.declared.orientation.Orientation.{Orientation}
+use Rattle.plane.specs.declared.orientation.Orientation.the-variants.{CounterClockwise, Clockwise, Collinear}
+use Rattle.plane.specs.Orient.{det, orientation}
+use Rattle.plane.specs.Points.{Segment, Between}
+use Rattle.plane.proofs.Terms.{side}
+use Rattle.plane.proofs.Integers.{ring, lin}
+
+pub left-turn : (z : ℤ) → pos 0 <ℤ z → CounterClockwise ≡ orientation z
+left-turn (pos zero) h = absurd (omega (arith, ints))
+left-turn (pos (suc n)) h = refl
+left-turn (negsuc n) h = absurd (omega (arith, ints))
+
+pub right-turn : (z : ℤ) → z <ℤ pos 0 → Clockwise ≡ orientation z
+right-turn (pos zero) h = absurd (omega (arith, ints))
+right-turn (pos (suc n)) h = absurd (omega (arith, ints))
+right-turn (negsuc n) h = refl
+
+pub no-turn : (z : ℤ) → z ≡ pos 0 → Collinear ≡ orientation z
+no-turn z e = sym (ap orientation e)
+
+-- the three turns differ
+differ : {P : Type 0} → _≡_ {A = ℕ} 0 1 → P
+differ z = absurd (omega arith)
+
+pub left-of : (z : ℤ) → orientation z ≡ CounterClockwise → pos 0 <ℤ z
+left-of (pos zero) e = differ (cc)
+left-of (pos (suc n)) e = omega (arith, ints)
+left-of (negsuc n) e = differ (cc)
+
+pub right-of : (z : ℤ) → orientation z ≡ Clockwise → z <ℤ pos 0
+right-of (pos zero) e = differ (cc)
+right-of (pos (suc n)) e = differ (cc)
+right-of (negsuc n) e = omega (arith, ints)
+
+pub level : (z : ℤ) → orientation z ≡ Collinear → z ≡ pos 0
+level (pos zero) e = refl
+level (pos (suc n)) e = differ (cc)
+level (negsuc n) e = differ (cc)
+
+pub left-not-level : CounterClockwise ≡ Collinear → ⊥
+left-not-level e = differ (cc)
+
+pub right-not-level : Clockwise ≡ Collinear → ⊥
+right-not-level e = differ (cc)
+
+-- two numbers of one sign with 0 between them are 0
+pub alike : (a b : ℤ) → orientation a ≡ orientation b → Between (pos 0) a b → (a ≡ pos 0) × (b ≡ pos 0)
+alike (pos zero) (pos zero) e h = (refl, refl)
+alike (pos zero) (pos (suc n)) e h = differ (cc)
+alike (pos zero) (negsuc n) e h = differ (cc)
+alike (pos (suc m)) (pos zero) e h = differ (cc)
+alike (pos (suc m)) (pos (suc n)) e h = absurd (omega (arith, ints, h))
+alike (pos (suc m)) (negsuc n) e h = differ (cc)
+alike (negsuc m) (pos zero) e h = differ (cc)
+alike (negsuc m) (pos (suc n)) e h = differ (cc)
+alike (negsuc m) (negsuc n) e h = absurd (omega (arith, ints, h))
+
+-- two numbers of different signs have 0 between them
+pub apart : (a b : ℤ) → (orientation a ≡ orientation b → ⊥) → Between (pos 0) a b
+apart (pos zero) (pos n) e = inl (omega (arith, ints), omega (arith, ints))
+apart (pos zero) (negsuc n) e = inr (omega (arith, ints), omega (arith, ints))
+apart (pos (suc m)) (pos zero) e = inr (omega (arith, ints), omega (arith, ints))
+apart (pos (suc m)) (pos (suc n)) e = absurd (e refl)
+apart (pos (suc m)) (negsuc n) e = inr (omega (arith, ints), omega (arith, ints))
+apart (negsuc m) (pos n) e = inl (omega (arith, ints), omega (arith, ints))
+apart (negsuc m) (negsuc n) e = absurd (e refl)
+
+-- the determinant, taken from the segment's end, is the side, taken from its start
+pub det-side : (s : Segment) (c : GridPoint) → det (s .p) (s .q) c ≡ side s (c .x) (c .y)
+det-side s c = go (s .p .x) (s .p .y) (s .q .x) (s .q .y) (c .x) (c .y)
+  where
+    go : (px py qx qy rx ry : ℤ) → (qx -ℤ px) *ℤ (ry -ℤ qy) -ℤ (qy -ℤ py) *ℤ (rx -ℤ qx) ≡ (qx -ℤ px) *ℤ (ry -ℤ py) -ℤ (qy -ℤ py) *ℤ (rx -ℤ px)
+    go px py qx qy rx ry = simp ring (omega (arith, lin))
+
+-- the turn of a grid point past a segment
+abbrev pub turn : Segment → GridPoint → Orientation
+turn s c = orientation (det (s .p) (s .q) c)
+
+pub turn-side : (s : Segment) (c : GridPoint) → turn s c ≡ orientation (side s (c .x) (c .y))
+turn-side s c = ap orientation (det-side s c)
