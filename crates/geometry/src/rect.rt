@@ -82,6 +82,11 @@ impl<T: CoordNum> Rect<T> {
         let max = self.max();
         let low_right = Coord { x: max.x, y: min.y };
         let high_left = Coord { x: min.x, y: max.y };
-        [Line::new(low_right, max), Line::new(max, high_left), Line::new(high_left, min), Line::new(min, low_right)]
+        [
+            Line::new(low_right, max),
+            Line::new(max, high_left),
+            Line::new(high_left, min),
+            Line::new(min, low_right),
+        ]
     }
 }

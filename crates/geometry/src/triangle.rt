@@ -27,6 +27,10 @@ impl<T: CoordNum> Triangle<T> {
     pub fn to_lines(&self) -> [Line<T>; 3]
         ensures { λ r. ⌜ map (segment (T·CoordNum .units)) r ≡ sides (grid-point (T·CoordNum .units) (now (self .entry) .v1)) (grid-point (T·CoordNum .units) (now (self .entry) .v2)) (grid-point (T·CoordNum .units) (now (self .entry) .v3)) ⌝ }
     {
-        [Line::new(self.v1, self.v2), Line::new(self.v2, self.v3), Line::new(self.v3, self.v1)]
+        [
+            Line::new(self.v1, self.v2),
+            Line::new(self.v2, self.v3),
+            Line::new(self.v3, self.v1),
+        ]
     }
 }

@@ -178,15 +178,17 @@ means-on-grid (fin false m e) (negsuc n) v w = absurd (false≢true (v .0))
 means-on-grid (fin false m e) (pos n) v w =
     let k = m * up e * 256 in
     let a : T (whole (fin false m e)) = eq→eqb (ap (λ (z : ℕ). z % down e) (v .1) ∙ mul-mod-left n (down e)) in
-    let b : T (not (beyond (fin false m e))) = none-over k (down e) n (v .1) (omega (arith, ints)) in
-    (and-i (whole (fin false m e) && not (beyond (fin false m e))) true (and-i (whole (fin false m e)) (not (beyond (fin false m e))) a b) tt,
-      ap (λ (z : ℕ). pos (z / down e)) (v .1) ∙ ap pos (mul-div-cancel n (down-pos e)))
+    let b : T (not (beyond (fin false m e))) = none-over k (down e) n (v .1) (omega (arith, ints)) in (
+      and-i (whole (fin false m e) && not (beyond (fin false m e))) true (and-i (whole (fin false m e)) (not (beyond (fin false m e))) a b) tt,
+      ap (λ (z : ℕ). pos (z / down e)) (v .1) ∙ ap pos (mul-div-cancel n (down-pos e)),
+    )
 means-on-grid (fin true m e) (negsuc n) v w =
     let k = m * up e * 256 in
     let a : T (whole (fin true m e)) = eq→eqb (ap (λ (z : ℕ). z % down e) (v .1) ∙ mul-mod-left (suc n) (down e)) in
-    let b : T (not (beyond (fin true m e))) = none-over k (down e) (suc n) (v .1) (omega (arith, ints)) in
-    (and-i (whole (fin true m e) && not (beyond (fin true m e))) (not (minus-zero (fin true m e))) (and-i (whole (fin true m e)) (not (beyond (fin true m e))) a b) (some-m m (up e) n (down e) (down-pos e) (v .1)),
-      ap (λ (z : ℕ). negℤ (pos (z / down e))) (v .1) ∙ ap (λ (z : ℕ). negℤ (pos z)) (mul-div-cancel (suc n) (down-pos e)))
+    let b : T (not (beyond (fin true m e))) = none-over k (down e) (suc n) (v .1) (omega (arith, ints)) in (
+      and-i (whole (fin true m e) && not (beyond (fin true m e))) (not (minus-zero (fin true m e))) (and-i (whole (fin true m e)) (not (beyond (fin true m e))) a b) (some-m m (up e) n (down e) (down-pos e) (v .1)),
+      ap (λ (z : ℕ). negℤ (pos (z / down e))) (v .1) ∙ ap (λ (z : ℕ). negℤ (pos z)) (mul-div-cancel (suc n) (down-pos e)),
+    )
 
 -- ---- one value, one float
 

@@ -66,8 +66,7 @@ eq-of t m e (fin u p g) w v =
     let q : p * up g ≡ w * down g = sym (mul-one (p * up g)) ∙ v .1 in
     let a = m * up e * down g in
     let b = p * up g * down e in
-    let is : b ≡ w * down e * down g = ap (λ (z : ℕ). z * down e) q ∙ mul-right-comm w (down g) (down e) in
-    (
+    let is : b ≡ w * down e * down g = ap (λ (z : ℕ). z * down e) q ∙ mul-right-comm w (down g) (down e) in (
       (λ h. eq-of-mul-eq-mul-right (down g) (down-pos g) (m * up e) (w * down e) (eqb→eq a b (and-l (eqb a b) (Bool·beq t u || eqb a 0) h) ∙ is)),
       (λ h. and-i (eqb a b) (Bool·beq t u || eqb a 0) (eq→eqb (ap (λ (z : ℕ). z * down g) h ∙ sym is)) (or-l (Bool·beq t u) (eqb a 0) (beq-refl t u (v .0)))),
     )
@@ -105,8 +104,7 @@ trunc-says (inf u) s n d D h v = absurd v
 trunc-says (fin t m e) s n d D h v =
     let q = m * up e in
     let p = down e in
-    let r = eq-of t m e (round binary64 t (q / p) 1) (q / p) (round-whole binary64 t (q / p) (cut-small q p n d (down-pos e) D (v .1) h)) in
-    (
+    let r = eq-of t m e (round binary64 t (q / p) 1) (q / p) (round-whole binary64 t (q / p) (cut-small q p n d (down-pos e) D (v .1) h)) in (
       (λ x. no-rest q p n d (down-pos e) D (v .1) (r .0 (subst (λ (z : Float). T (eq (fin t m e) z)) (trunc-is t m e) x))),
       (λ x. subst (λ (z : Float). T (eq (fin t m e) z)) (sym (trunc-is t m e)) (r .1 (all-cut q p n d (down-pos e) D (v .1) x))),
     )

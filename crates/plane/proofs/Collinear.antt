@@ -7,9 +7,9 @@ use lib.IntN.{ℤ, pos, negsuc, _+ℤ_, _-ℤ_, _*ℤ_, negℤ, *ℤ-comm, natAb
 use lib.Signed.{_≤ℤ_, _<ℤ_}
 use Rattle.std.proofs.shelf.Signed.{ints, by-ltZ}
 use Rattle.plane.specs.declared.grid_point.GridPoint.{GridPoint}
-use Rattle.plane.specs.Points.{LongerThanZero, Segment, On, Between}
+use Rattle.plane.specs.Points.{LongerThanZero, Segment, On, Between, Ranges}
 use Rattle.plane.specs.Sets.{Common}
-use Rattle.plane.proofs.Terms.{Along, Meet, side, reversed, transposed, Ranges}
+use Rattle.plane.proofs.Terms.{Along, Meet, side, reversed, transposed}
 use Rattle.plane.proofs.Integers.{ring, lin, lt-mul, cancel-le, cancel-eq, cancel-apart, mul-neg, neg-mul, *ℤ-one-pos, *ℤ-pos-one}
 use Rattle.plane.proofs.Slopes.{on-along}
 use Rattle.plane.proofs.Division.{by-sign}

@@ -131,3 +131,7 @@ module _ (s : Segment) (r : Box) (u : Ordered r) (n : Common (InBox r) (InBox (s
           go CounterClockwise e = absurd (aside-no r s m (alike-one-side s r p q t (λ f. left-not-level (sym e ∙ f))))
           go Clockwise e = absurd (aside-no r s m (alike-one-side s r p q t (λ f. right-not-level (sym e ∙ f))))
           go Collinear e = e
+
+-- a box by its corners
+pub corners-are : (r : Box) (lo hi : GridPoint) → lo ≡ r .min → hi ≡ r .max → _≡_ {A = Box} (record { min = lo; max = hi }) r
+corners-are r lo hi e f = λ i. record { min = e i; max = f i }

@@ -1,7 +1,7 @@
 -- What the turns of their ends tell of two segments, and of a segment and a grid point.
 use Prim.Native.Nat.{ℕ, _≤_}
 use native.Mathlib.Omega.{arith}
-use mathlib.Core.Path.{_≡_, refl, sym, ap, _∙_, subst₂}
+use mathlib.Core.Path.{_≡_, refl, sym, ap, _∙_, subst, subst₂}
 use mathlib.Core.Logic.{_⊎_, inl, inr}
 use mathlib.Core.Bool.{Bool}
 use lib.IntN.{ℤ, pos, _-ℤ_, _*ℤ_}
@@ -11,14 +11,14 @@ use Rattle.plane.specs.declared.orientation.Orientation.{Orientation}
 use Rattle.plane.specs.declared.orientation.Orientation.the-variants.{Collinear}
 use Rattle.plane.specs.Reflects.{Reflects}
 use Rattle.plane.specs.Orient.{orientation}
-use Rattle.plane.specs.Points.{Segment, On, Between, Touches, LongerThanZero}
+use Rattle.plane.specs.Points.{Segment, On, Between, Touches, LongerThanZero, Ranges}
 use Rattle.plane.specs.Sets.{Common, At}
-use Rattle.plane.proofs.Terms.{Meet, Along, Ranges, side}
-use Rattle.plane.proofs.Integers.{lin}
+use Rattle.plane.proofs.Terms.{Meet, Along, side}
+use Rattle.plane.proofs.Integers.{lin, cancel-eq}
 use Rattle.plane.proofs.Answers.{reflects-same}
 use Rattle.plane.proofs.Orientations.{level, alike, apart, turn, turn-side}
 use Rattle.plane.proofs.Crossing.{straddles, cross-yes, other-side, meet-turns}
-use Rattle.plane.proofs.Collinear.{level-no, zero-q, ranges-on, on-ranges, on-side, at-point, point-meets, start-on, end-on, unscaled}
+use Rattle.plane.proofs.Collinear.{level-no, zero-q, ranges-on, on-ranges, on-side, at-point, point-meets, start-on, end-on, unscaled, same-point}
 
 -- ---- a segment and a grid point
 
@@ -38,11 +38,32 @@ touch-common s c o = record { X = c .x; Y = c .y; d = 1; positive = omega arith;
 pub common-touch : (s : Segment) (c : GridPoint) → Common (On s) (At c) → Touches s c
 common-touch s c m = unscaled s (c .x) (c .y) (m .d) (m .positive) (subst₂ (λ (X Y : ℤ). On s X Y (m .d)) (m .second .at-x) (m .second .at-y) (m .first))
 
+pub touch-reflects-common : (r : Bool) (s : Segment) (c : GridPoint) → turn s c ≡ Collinear → Reflects r (Ranges s (c .x) (c .y)) → Reflects r (Common (On s) (At c))
+touch-reflects-common r s c e h = reflects-same r (touch-common s c) (common-touch s c) (touch-reflects r s c e h)
+
+pub common-collinear : (s : Segment) (c : GridPoint) → Common (On s) (At c) → turn s c ≡ Collinear
+common-collinear s c m = touch-collinear s c (common-touch s c m)
+
+-- the same two sets the other way round
+pub swap-reflects : (r : Bool) (P Q : ℤ → ℤ → ℕ → Type 0) → Reflects r (Common P Q) → Reflects r (Common Q P)
+swap-reflects r P Q h = reflects-same r meet-turns meet-turns h
+
+-- two grid points have a point in common exactly if they are equal
+pub same-reflects : (r : Bool) (a b : GridPoint) → Reflects r (a ≡ b) → Reflects r (Common (At a) (At b))
+same-reflects r a b h =
+    reflects-same r
+    (λ e. record { X = a .x; Y = a .y; d = 1; positive = omega arith; first = at-self a; second = subst (λ (c : GridPoint). At c (a .x) (a .y) 1) e (at-self a) })
+    (λ m. same-point a b (one (m .d) (a .x) (b .x) (m .X) (m .positive) (m .first .at-x) (m .second .at-x)) (one (m .d) (a .y) (b .y) (m .Y) (m .positive) (m .first .at-y) (m .second .at-y)))
+    h
+  where
+    one : (d : ℕ) (a b v : ℤ) → 1 ≤ d → v ≡ pos d *ℤ a → v ≡ pos d *ℤ b → a ≡ b
+    one d a b v p e f = cancel-eq (pos d) a b (omega (arith, ints)) (sym e ∙ f)
+
 -- ---- two segments
 
 -- a segment of length zero
-pub point-reflects : (r : Bool) (s t : Segment) → s .p ≡ s .q → Reflects r (Touches t (s .p)) → Reflects r (Meet s t)
-point-reflects r s t e h = reflects-same r (λ o. at-point s t (s .p .x) (s .p .y) (start-on s) o) (point-meets s t e) h
+pub point-reflects : (r : Bool) (s t : Segment) → s .p ≡ s .q → Reflects r (Common (On t) (At (s .p))) → Reflects r (Meet s t)
+point-reflects r s t e h = reflects-same r (λ m. at-point s t (s .p .x) (s .p .y) (start-on s) (common-touch t (s .p) m)) (λ m. touch-common t (s .p) (point-meets s t e m)) h
 
 -- the ends of t turn differently past s: the two meet exactly if those of s turn differently past t
 pub cross-reflects : (r : Bool) (s t : Segment) → (turn s (t .p) ≡ turn s (t .q) → ⊥) → Reflects r (turn t (s .p) ≡ turn t (s .q) → ⊥) → Reflects r (Meet s t)

@@ -32,10 +32,6 @@ transposed s = record { p = record { x = s .p .y; y = s .p .x }; q = record { x 
 abbrev pub mirrored : Segment → Segment
 mirrored s = record { p = record { x = s .p .x; y = negℤ (s .p .y) }; q = record { x = s .q .x; y = negℤ (s .q .y) } }
 
--- (x, y) lies within the ranges of a segment
-abbrev pub Ranges : Segment → ℤ → ℤ → Type 0
-Ranges s x y = Between x (s .p .x) (s .q .x) × Between y (s .p .y) (s .q .y)
-
 -- the corners of a box are in order
 abbrev pub Ordered : Box → Type 0
 Ordered r = (r .min .x ≤ℤ r .max .x) × (r .min .y ≤ℤ r .max .y)

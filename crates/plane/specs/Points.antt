@@ -28,3 +28,7 @@ Touches s c = On s (c .x) (c .y) 1
 -- the ends of the segment differ
 abbrev pub LongerThanZero : Segment → Type 0
 LongerThanZero s = s .p ≡ s .q → ⊥
+
+-- (x, y) lies between the ends of the segment in both directions
+abbrev pub Ranges : Segment → ℤ → ℤ → Type 0
+Ranges s x y = Between x (s .p .x) (s .q .x) × Between y (s .p .y) (s .q .y)

@@ -62,5 +62,9 @@ pub(crate) fn read_units(u: i32) -> i32
     ensures value { λ r. ⌜ r ≡ read u ⌝ }
     ensures within { λ r. ⌜ Within r ⌝ }
 {
-    if u >= -536870912 && u <= 536870912 { u } else { 0 }
+    if u >= -536870912 && u <= 536870912 {
+        u
+    } else {
+        0
+    }
 }

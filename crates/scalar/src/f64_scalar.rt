@@ -17,6 +17,7 @@ pub struct F64Scalar {
 
 pub impl CoordNum for F64Scalar as F64CoordNum {
     type Raw = f64;
+
     type Fault = F64Fault;
 
     ghost units = { λ s. units-of (s .value) };

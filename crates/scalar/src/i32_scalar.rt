@@ -13,6 +13,7 @@ pub struct I32Scalar {
 
 pub impl CoordNum for I32Scalar as I32CoordNum {
     type Raw = i32;
+
     type Fault = I32Fault;
 
     ghost units = { λ s. s .value };

@@ -42,8 +42,8 @@ returns-then-scaled-trunc c =
     let b = near x (c .abs .result) (c .abs .ensures .value) (c .if-abs .left) in
     let f : T (fits binary64 x) = tests.yes (fits binary64 x) (c .good .0 .1) in
     refused-off-grid x n b (not-T (whole x) (λ w.
-        let t = tests.whole-says x f n b .1 w in
-        T-not (eq (mul binary64 x (ofBits binary64 4643211215818981376)) (c .trunc .result)) (tests.yes (not (eq (mul binary64 x (ofBits binary64 4643211215818981376)) (c .trunc .result))) (c .if-scaled-trunc .taken)) (subst T (sym (cut x (c .trunc .result) (c .trunc .ensures))) t)))
+    let t = tests.whole-says x f n b .1 w in
+    T-not (eq (mul binary64 x (ofBits binary64 4643211215818981376)) (c .trunc .result)) (tests.yes (not (eq (mul binary64 x (ofBits binary64 4643211215818981376)) (c .trunc .result))) (c .if-scaled-trunc .taken)) (subst T (sym (cut x (c .trunc .result) (c .trunc .ensures))) t)))
 
 pub ghost-result : need.ghost-result
 unfolding fits ofBits
