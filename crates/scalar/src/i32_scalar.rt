@@ -32,7 +32,7 @@ pub impl CoordNum for I32Scalar as I32CoordNum {
     }
 
     fn raw(self) -> i32 {
-        self.value
+        self.to_units()
     }
 
     fn to_units(self) -> i32 {
