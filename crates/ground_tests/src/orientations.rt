@@ -26,7 +26,7 @@ fn turns<T: GeoNum>() -> Result<(), Fail> {
     // both products positive, both negative
     check_eq(turn::<T>(0, 0, 2, 1, 5, 3), Orientation::CounterClockwise)?;
     check_eq(turn::<T>(0, 0, 2, -1, 5, -3), Orientation::Clockwise)?;
-    // the widest triangle: the determinant is 2^61 in size
+    // as wide as the reach allows
     check_eq(
         turn::<T>(
             -536870912,

@@ -19,7 +19,7 @@ ghost use Rattle.geometry.specs.Rects.{box};
 
 pub impl<T: CoordNum> Intersects<Coord<T>> for Coord<T> as CoordIntersectsCoord {
     fn intersects(&self, rhs: &Coord<T>) -> bool
-        ensures { λ r. ⌜ Reflects r (Common (At (grid-point (T·CoordNum .units) (now (self .entry)))) (At (grid-point (T·CoordNum .units) (now (rhs .entry))))) ⌝ }
+        ensures points { λ r. ⌜ Reflects r (Common (At (grid-point (T·CoordNum .units) (now (self .entry)))) (At (grid-point (T·CoordNum .units) (now (rhs .entry))))) ⌝ }
     {
         *self == *rhs
     }
@@ -27,7 +27,7 @@ pub impl<T: CoordNum> Intersects<Coord<T>> for Coord<T> as CoordIntersectsCoord 
 
 pub impl<T: GeoNum> Intersects<Line<T>> for Coord<T> as CoordIntersectsLine {
     fn intersects(&self, rhs: &Line<T>) -> bool
-        ensures { λ r. ⌜ Reflects r (Common (At (grid-point (T·CoordNum .units) (now (self .entry)))) (On (segment (T·CoordNum .units) (now (rhs .entry))))) ⌝ }
+        ensures points { λ r. ⌜ Reflects r (Common (At (grid-point (T·CoordNum .units) (now (self .entry)))) (On (segment (T·CoordNum .units) (now (rhs .entry))))) ⌝ }
     {
         LineIntersectsCoord::intersects(rhs, self)
     }
@@ -35,7 +35,7 @@ pub impl<T: GeoNum> Intersects<Line<T>> for Coord<T> as CoordIntersectsLine {
 
 pub impl<T: CoordNum> Intersects<Rect<T>> for Coord<T> as CoordIntersectsRect {
     fn intersects(&self, rhs: &Rect<T>) -> bool
-        ensures { λ r. ⌜ Reflects r (Common (At (grid-point (T·CoordNum .units) (now (self .entry)))) (InBox (box (T·CoordNum .units) (now (rhs .entry))))) ⌝ }
+        ensures points { λ r. ⌜ Reflects r (Common (At (grid-point (T·CoordNum .units) (now (self .entry)))) (InBox (box (T·CoordNum .units) (now (rhs .entry))))) ⌝ }
     {
         RectIntersectsCoord::intersects(rhs, self)
     }

@@ -10,5 +10,5 @@ ghost use Rattle.plane.specs.Sets.{Common};
 
 pub trait Intersects<Rhs: PointSet>: PointSet {
     fn intersects(&self, rhs: &Rhs) -> bool
-        ensures { λ r. ⌜ Reflects r (Common (Self·PointSet .points (now (self .entry))) (Rhs·PointSet .points (now (rhs .entry)))) ⌝ };
+        ensures points { λ r. ⌜ Reflects r (Common (Self·PointSet .points (now (self .entry))) (Rhs·PointSet .points (now (rhs .entry)))) ⌝ };
 }

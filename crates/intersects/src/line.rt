@@ -15,16 +15,18 @@ use scalar::coord::CoordClone;
 use scalar::coord::CoordPartialEq;
 use scalar::coord_num::CoordNum;
 ghost use mathlib.Core.Logic.{_⊎_};
-ghost use Rattle.plane.specs.Points.{On, Ranges};
+ghost use Rattle.plane.specs.Points.{On, Touches, Ranges};
 ghost use Rattle.plane.specs.Reflects.{Reflects};
 ghost use Rattle.plane.specs.Sets.{Common, At, InBox};
 ghost use Rattle.scalar.specs.Coords.{grid-point};
 ghost use Rattle.geometry.specs.Shapes.{segment};
 ghost use Rattle.geometry.specs.Rects.{box};
 
+// A coordinate that touches the line.
 pub impl<T: GeoNum> Intersects<Coord<T>> for Line<T> as LineIntersectsCoord {
     fn intersects(&self, rhs: &Coord<T>) -> bool
-        ensures { λ r. ⌜ Reflects r (Common (On (segment (T·CoordNum .units) (now (self .entry)))) (At (grid-point (T·CoordNum .units) (now (rhs .entry))))) ⌝ }
+        ensures points { λ r. ⌜ Reflects r (Common (On (segment (T·CoordNum .units) (now (self .entry)))) (At (grid-point (T·CoordNum .units) (now (rhs .entry))))) ⌝ }
+        ensures touches { λ r. ⌜ Reflects r (Touches (segment (T·CoordNum .units) (now (self .entry))) (grid-point (T·CoordNum .units) (now (rhs .entry)))) ⌝ }
     {
         // on the line through both ends, and between them in both directions
         T::Ker::orient2d(self.start, self.end, *rhs) == Orientation::Collinear
@@ -47,7 +49,7 @@ fn overlap_along<T: CoordNum>(l: &Line<T>, line: &Line<T>) -> bool
 
 pub impl<T: GeoNum> Intersects<Line<T>> for Line<T> as LineIntersectsLine {
     fn intersects(&self, line: &Line<T>) -> bool
-        ensures { λ r. ⌜ Reflects r (Common (On (segment (T·CoordNum .units) (now (self .entry)))) (On (segment (T·CoordNum .units) (now (line .entry))))) ⌝ }
+        ensures points { λ r. ⌜ Reflects r (Common (On (segment (T·CoordNum .units) (now (self .entry)))) (On (segment (T·CoordNum .units) (now (line .entry))))) ⌝ }
     {
         // Special case: self is a point.
         if self.start == self.end {
@@ -70,7 +72,7 @@ pub impl<T: GeoNum> Intersects<Line<T>> for Line<T> as LineIntersectsLine {
 
 pub impl<T: GeoNum> Intersects<Rect<T>> for Line<T> as LineIntersectsRect {
     fn intersects(&self, rhs: &Rect<T>) -> bool
-        ensures { λ r. ⌜ Reflects r (Common (On (segment (T·CoordNum .units) (now (self .entry)))) (InBox (box (T·CoordNum .units) (now (rhs .entry))))) ⌝ }
+        ensures points { λ r. ⌜ Reflects r (Common (On (segment (T·CoordNum .units) (now (self .entry)))) (InBox (box (T·CoordNum .units) (now (rhs .entry))))) ⌝ }
     {
         RectIntersectsLine::intersects(rhs, self)
     }

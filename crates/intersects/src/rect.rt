@@ -21,7 +21,7 @@ ghost use Rattle.geometry.specs.Rects.{box};
 
 pub impl<T: CoordNum> Intersects<Coord<T>> for Rect<T> as RectIntersectsCoord {
     fn intersects(&self, rhs: &Coord<T>) -> bool
-        ensures { λ r. ⌜ Reflects r (Common (InBox (box (T·CoordNum .units) (now (self .entry)))) (At (grid-point (T·CoordNum .units) (now (rhs .entry))))) ⌝ }
+        ensures points { λ r. ⌜ Reflects r (Common (InBox (box (T·CoordNum .units) (now (self .entry)))) (At (grid-point (T·CoordNum .units) (now (rhs .entry))))) ⌝ }
     {
         let min = self.min();
         let max = self.max();
@@ -31,7 +31,7 @@ pub impl<T: CoordNum> Intersects<Coord<T>> for Rect<T> as RectIntersectsCoord {
 
 pub impl<T: CoordNum> Intersects<Rect<T>> for Rect<T> as RectIntersectsRect {
     fn intersects(&self, other: &Rect<T>) -> bool
-        ensures { λ r. ⌜ Reflects r (Common (InBox (box (T·CoordNum .units) (now (self .entry)))) (InBox (box (T·CoordNum .units) (now (other .entry))))) ⌝ }
+        ensures points { λ r. ⌜ Reflects r (Common (InBox (box (T·CoordNum .units) (now (self .entry)))) (InBox (box (T·CoordNum .units) (now (other .entry))))) ⌝ }
     {
         let (min, max) = (self.min(), self.max());
         let (other_min, other_max) = (other.min(), other.max());
@@ -50,7 +50,7 @@ pub impl<T: CoordNum> Intersects<Rect<T>> for Rect<T> as RectIntersectsRect {
 
 pub impl<T: GeoNum> Intersects<Line<T>> for Rect<T> as RectIntersectsLine {
     fn intersects(&self, rhs: &Line<T>) -> bool
-        ensures { λ r. ⌜ Reflects r (Common (InBox (box (T·CoordNum .units) (now (self .entry)))) (On (segment (T·CoordNum .units) (now (rhs .entry))))) ⌝ }
+        ensures points { λ r. ⌜ Reflects r (Common (InBox (box (T·CoordNum .units) (now (self .entry)))) (On (segment (T·CoordNum .units) (now (rhs .entry))))) ⌝ }
     {
         if !RectIntersectsRect::intersects(self, &Rect::new(rhs.start, rhs.end)) {
             return false;

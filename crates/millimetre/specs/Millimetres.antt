@@ -25,6 +25,7 @@ whole nan = false
 whole (inf s) = false
 whole (fin s m e) = eqb (m * up e * 256 % down e) 0
 
+-- x is -0.0
 abbrev pub minus-zero : Float → Bool
 minus-zero nan = false
 minus-zero (inf s) = false

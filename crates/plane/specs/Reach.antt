@@ -12,6 +12,7 @@ Within u = (negsuc 536870911 ≤ℤ u) × (u ≤ℤ pos 536870912)
 abbrev pub within : ℤ → Bool
 within u = leZ (negsuc 536870911) u && leZ u (pos 536870912)
 
+-- both numbers of a grid point are within reach
 abbrev pub WithinReach : GridPoint → Type 0
 WithinReach p = Within (p .x) × Within (p .y)
 

@@ -22,11 +22,13 @@ f64-fault F64.NotANumber = record { number = 1; value = None }
 f64-fault (F64.BeyondReach x) = record { number = 2; value = Some x }
 f64-fault (F64.OffGrid x) = record { number = 3; value = Some x }
 
+-- what an i32 is refused with, if it is
 abbrev pub i32-refusal : ℤ → Option (Refusal ℤ)
-i32-refusal u = cond (within u) None (Some (record { number = 2; value = Some u }))
+i32-refusal u = cond (within u) None (Some (i32-fault (I32.BeyondReach u)))
 
+-- what an f64 is refused with, if it is: the checks in their order
 abbrev pub f64-refusal : Float → Option (Refusal Float)
 f64-refusal x =
-    cond (isNan x) (Some (record { number = 1; value = None }))
-    (cond (beyond x) (Some (record { number = 2; value = Some x }))
-    (cond (whole x) None (Some (record { number = 3; value = Some x }))))
+    cond (isNan x) (Some (f64-fault F64.NotANumber))
+    (cond (beyond x) (Some (f64-fault (F64.BeyondReach x)))
+    (cond (whole x) None (Some (f64-fault (F64.OffGrid x)))))

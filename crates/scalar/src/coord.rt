@@ -4,7 +4,7 @@ use plane::grid_point::GridPoint;
 ghost use mathlib.Core.Path.{_≡_};
 ghost use Rattle.std.specs.declared.option.Option.the-variants.{None, Some};
 ghost use Rattle.std.specs.Results.{Cases};
-ghost use Rattle.plane.specs.Reach.{read-point};
+ghost use Rattle.plane.specs.Reach.{WithinReach, read-point};
 ghost use Rattle.plane.specs.Reflects.{Reflects};
 ghost use Rattle.scalar.specs.Coords.{grid-point};
 ghost use Rattle.scalar.specs.Refusal.{first-of};
@@ -27,7 +27,8 @@ impl<T: CoordNum> Coord<T> {
 
     // The coordinate as it lies in slices, arrays and tables.
     pub fn to_grid(self) -> GridPoint
-        ensures { λ r. ⌜ r ≡ grid-point (T·CoordNum .units) self ⌝ }
+        ensures value { λ r. ⌜ r ≡ grid-point (T·CoordNum .units) self ⌝ }
+        ensures within { λ r. ⌜ WithinReach r ⌝ }
     {
         GridPoint {
             x: self.x.to_units(),

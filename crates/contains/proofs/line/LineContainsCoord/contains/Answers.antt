@@ -6,7 +6,6 @@ use Rattle.plane.specs.Points.{Segment, On}
 use Rattle.plane.specs.Reflects.{Reflects}
 use Rattle.plane.specs.Sets.{Common, At, Interior}
 use Rattle.plane.proofs.Answers.{reflects-same}
-use Rattle.plane.proofs.Segments.{touch-common, common-touch}
 use Rattle.plane.proofs.Containment.{coord-reflects, zero-reflects, longer-reflects, end-not-interior}
 use Rattle.scalar.specs.Coords.{grid-point}
 use Rattle.scalar.proofs.CoordLaws.{same-coord, same-grid}
@@ -45,5 +44,5 @@ returns g c =
     let k = grid-point u (c .args .coord .now) in
     let r = c .intersects .result in
     let same = same-coord u (g .T·CoordNum·met .«equal_units») in
-    let h = longer-reflects r s k (λ e. c .if-eq .ensures tt (same _ _ e)) (λ e. c .if-eq-2 .ensures tt (same _ _ e)) (λ e. c .if-eq-3 .ensures tt (same _ _ e)) (reflects-same r (common-touch s k) (touch-common s k) (c .intersects .ensures)) in
+    let h = longer-reflects r s k (λ e. c .if-eq .ensures tt (same _ _ e)) (λ e. c .if-eq-2 .ensures tt (same _ _ e)) (λ e. c .if-eq-3 .ensures tt (same _ _ e)) (c .intersects .ensures .touches) in
     record { points = coord-reflects r s k h; rule = h }

@@ -5,7 +5,6 @@ use Rattle.plane.specs.Points.{Segment, On, Touches, LongerThanZero}
 use Rattle.plane.specs.Reflects.{Reflects}
 use Rattle.plane.specs.Sets.{Common, Subset, Interior, ContainsByEnds}
 use Rattle.plane.proofs.Answers.{reflects-same}
-use Rattle.plane.proofs.Segments.{touch-common, common-touch}
 use Rattle.plane.proofs.Containment.{ends-contain, contain-ends}
 use Rattle.scalar.specs.Coords.{grid-point}
 use Rattle.scalar.proofs.CoordLaws.{same-coord}
@@ -32,7 +31,7 @@ returns-then-not-intersects g c =
     let s = segment u (c .args .self .now) in
     let t = segment u (c .args .line .now) in
     let n : LongerThanZero t = λ e. c .if-eq .ensures tt (same-coord u (g .T·CoordNum·met .«equal_units») _ _ e) in
-    let h : Reflects false (ContainsByEnds s t) = λ e. c .if-not-intersects .ensures tt (touch-common s (t .p) (e .longer n .0)) in
+    let h : Reflects false (ContainsByEnds s t) = λ e. c .if-not-intersects .ensures tt .touches (e .longer n .0) in
     record { points = by-points false s t (inr n) h; rule = h }
 
 pub returns : need.returns
@@ -43,5 +42,5 @@ returns g c =
     let r = c .intersects-2 .result in
     let n : LongerThanZero t = λ e. c .if-eq .ensures tt (same-coord u (g .T·CoordNum·met .«equal_units») _ _ e) in
     let h : Reflects r (ContainsByEnds s t) =
-    reflects-same r (λ m. record { point = λ z. absurd (n z); longer = λ _. (common-touch s (t .p) (c .if-not-intersects .ensures tt), common-touch s (t .q) m) }) (λ e. touch-common s (t .q) (e .longer n .1)) (c .intersects-2 .ensures) in
+    reflects-same r (λ m. record { point = λ z. absurd (n z); longer = λ _. (c .if-not-intersects .ensures tt .touches, m) }) (λ e. e .longer n .1) (c .intersects-2 .ensures .touches) in
     record { points = by-points r s t (inr n) h; rule = h }

@@ -19,11 +19,17 @@ returns-then-value-in-range g c =
     let u = g .T·CoordNum .units in
     let x = c .if-value-in-range .ensures tt in
     let r = c .value-in-range-then-value-in-range .result in
-    corners r (box u (c .args .self .now)) _ _ (grid-point u (c .args .rhs .now)) (c .min-min .ensures) (c .max-max .ensures)
-    (reflects-same r (λ y. (x .0, x .1, y .0, y .1)) (λ h. (h .2, h .3)) (c .value-in-range-then-value-in-range .ensures))
+    record {
+      points =
+          corners r (box u (c .args .self .now)) _ _ (grid-point u (c .args .rhs .now)) (c .min-min .ensures) (c .max-max .ensures)
+          (reflects-same r (λ y. (x .0, x .1, y .0, y .1)) (λ h. (h .2, h .3)) (c .value-in-range-then-value-in-range .ensures));
+    }
 
 pub returns-else-value-in-range : need.returns-else-value-in-range
 returns-else-value-in-range g c =
     let u = g .T·CoordNum .units in
     let n = c .if-value-in-range .ensures tt in
-    corners (c .value-in-range .result) (box u (c .args .self .now)) _ _ (grid-point u (c .args .rhs .now)) (c .min-min .ensures) (c .max-max .ensures) (reflects-no (c .value-in-range .result) (c .if-value-in-range .left) (λ h. n (h .0, h .1)))
+    record {
+      points =
+          corners (c .value-in-range .result) (box u (c .args .self .now)) _ _ (grid-point u (c .args .rhs .now)) (c .min-min .ensures) (c .max-max .ensures) (reflects-no (c .value-in-range .result) (c .if-value-in-range .left) (λ h. n (h .0, h .1)));
+    }

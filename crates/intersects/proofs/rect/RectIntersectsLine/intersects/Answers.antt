@@ -28,7 +28,10 @@ pub returns-then-not-intersects : need.returns-then-not-intersects
 returns-then-not-intersects g c =
     let u = g .T·CoordNum .units in
     let r = box u (c .args .self .now) in
-    far r (segment u (c .args .rhs .now)) (subst (λ (b : Box). Common (InBox r) (InBox b) → ⊥) (c .new .ensures .corners) (c .if-not-intersects .ensures tt))
+    record {
+      points =
+          far r (segment u (c .args .rhs .now)) (subst (λ (b : Box). Common (InBox r) (InBox b) → ⊥) (c .new .ensures .corners) (c .if-not-intersects .ensures tt .points));
+    }
 
 pub returns-then-ne : need.returns-then-ne
 returns-then-ne g c =
@@ -37,8 +40,11 @@ returns-then-ne g c =
     let r = box u (c .args .self .now) in
     let e0 = at-corner s _ _ (r .min) (c .orient2d-o0 .ensures .turn) (c .min-c0 .ensures) in
     let e1 = at-corner s _ _ (low-right r) (c .orient2d-o1 .ensures .turn) (right-under r _ _ (c .min-c0 .ensures) (c .max-c2 .ensures)) in
-    low-right-apart s r (box-ordered u (c .args .self .now)) (subst (λ (b : Box). Common (InBox r) (InBox b)) (c .new .ensures .corners) (c .if-not-intersects .ensures tt))
-    (λ e. ne-reflects _ _ _ (c .if-ne .ensures tt) (e0 ∙ e ∙ sym e1))
+    record {
+      points =
+          low-right-apart s r (box-ordered u (c .args .self .now)) (subst (λ (b : Box). Common (InBox r) (InBox b)) (c .new .ensures .corners) (c .if-not-intersects .ensures tt .points))
+          (λ e. ne-reflects _ _ _ (c .if-ne .ensures tt) (e0 ∙ e ∙ sym e1));
+    }
 
 pub returns-then-ne-2 : need.returns-then-ne-2
 returns-then-ne-2 g c =
@@ -47,8 +53,11 @@ returns-then-ne-2 g c =
     let r = box u (c .args .self .now) in
     let e0 = at-corner s _ _ (r .min) (c .orient2d-o0 .ensures .turn) (c .min-c0 .ensures) in
     let e2 = at-corner s _ _ (r .max) (c .orient2d-o2 .ensures .turn) (c .max-c2 .ensures) in
-    high-right-apart s r (box-ordered u (c .args .self .now)) (subst (λ (b : Box). Common (InBox r) (InBox b)) (c .new .ensures .corners) (c .if-not-intersects .ensures tt))
-    (λ e. ne-reflects _ _ _ (c .if-ne-2 .ensures tt) (e0 ∙ e ∙ sym e2))
+    record {
+      points =
+          high-right-apart s r (box-ordered u (c .args .self .now)) (subst (λ (b : Box). Common (InBox r) (InBox b)) (c .new .ensures .corners) (c .if-not-intersects .ensures tt .points))
+          (λ e. ne-reflects _ _ _ (c .if-ne-2 .ensures tt) (e0 ∙ e ∙ sym e2));
+    }
 
 pub returns-then-ne-3 : need.returns-then-ne-3
 returns-then-ne-3 g c =
@@ -57,8 +66,11 @@ returns-then-ne-3 g c =
     let r = box u (c .args .self .now) in
     let e0 = at-corner s _ _ (r .min) (c .orient2d-o0 .ensures .turn) (c .min-c0 .ensures) in
     let e3 = at-corner s _ _ (high-left r) (c .orient2d-o3 .ensures .turn) (left-over r _ _ (c .min-c0 .ensures) (c .max-c2 .ensures)) in
-    high-left-apart s r (box-ordered u (c .args .self .now)) (subst (λ (b : Box). Common (InBox r) (InBox b)) (c .new .ensures .corners) (c .if-not-intersects .ensures tt))
-    (λ e. ne-reflects _ _ _ (c .if-ne-3 .ensures tt) (e0 ∙ e ∙ sym e3))
+    record {
+      points =
+          high-left-apart s r (box-ordered u (c .args .self .now)) (subst (λ (b : Box). Common (InBox r) (InBox b)) (c .new .ensures .corners) (c .if-not-intersects .ensures tt .points))
+          (λ e. ne-reflects _ _ _ (c .if-ne-3 .ensures tt) (e0 ∙ e ∙ sym e3));
+    }
 
 pub returns : need.returns
 returns g c =
@@ -69,6 +81,9 @@ returns g c =
     let e1 = at-corner s _ _ (low-right r) (c .orient2d-o1 .ensures .turn) (right-under r _ _ (c .min-c0 .ensures) (c .max-c2 .ensures)) in
     let e2 = at-corner s _ _ (r .max) (c .orient2d-o2 .ensures .turn) (c .max-c2 .ensures) in
     let e3 = at-corner s _ _ (high-left r) (c .orient2d-o3 .ensures .turn) (left-over r _ _ (c .min-c0 .ensures) (c .max-c2 .ensures)) in
-    corners-reflect s r (box-ordered u (c .args .self .now)) (subst (λ (b : Box). Common (InBox r) (InBox b)) (c .new .ensures .corners) (c .if-not-intersects .ensures tt)) (c .eq .result)
-    (sym e0 ∙ ne-left _ _ (c .if-ne .ensures tt) ∙ e1) (sym e0 ∙ ne-left _ _ (c .if-ne-2 .ensures tt) ∙ e2) (sym e0 ∙ ne-left _ _ (c .if-ne-3 .ensures tt) ∙ e3)
-    (reflects-same (c .eq .result) (λ e. sym e0 ∙ e) (λ e. e0 ∙ e) (eq-reflects _ Collinear (c .eq .result) (c .eq .ensures)))
+    record {
+      points =
+          corners-reflect s r (box-ordered u (c .args .self .now)) (subst (λ (b : Box). Common (InBox r) (InBox b)) (c .new .ensures .corners) (c .if-not-intersects .ensures tt .points)) (c .eq .result)
+          (sym e0 ∙ ne-left _ _ (c .if-ne .ensures tt) ∙ e1) (sym e0 ∙ ne-left _ _ (c .if-ne-2 .ensures tt) ∙ e2) (sym e0 ∙ ne-left _ _ (c .if-ne-3 .ensures tt) ∙ e3)
+          (reflects-same (c .eq .result) (λ e. sym e0 ∙ e) (λ e. e0 ∙ e) (eq-reflects _ Collinear (c .eq .result) (c .eq .ensures)));
+    }

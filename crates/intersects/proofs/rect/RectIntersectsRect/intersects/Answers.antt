@@ -19,20 +19,32 @@ overlap-reflects r a b min max other-min other-max u v e f e′ f′ h =
 pub returns-then-not-at-most : need.returns-then-not-at-most
 returns-then-not-at-most g c =
     let u = g .T·CoordNum .units in
-    overlap-reflects false (box u (c .args .self .now)) (box u (c .args .other .now)) _ _ _ _ (box-ordered u (c .args .self .now)) (box-ordered u (c .args .other .now)) (c .min-min .ensures) (c .max-max .ensures) (c .min-other-min .ensures) (c .max-other-max .ensures) (λ o. c .if-not-at-most .ensures tt (o .0))
+    record {
+      points =
+          overlap-reflects false (box u (c .args .self .now)) (box u (c .args .other .now)) _ _ _ _ (box-ordered u (c .args .self .now)) (box-ordered u (c .args .other .now)) (c .min-min .ensures) (c .max-max .ensures) (c .min-other-min .ensures) (c .max-other-max .ensures) (λ o. c .if-not-at-most .ensures tt (o .0));
+    }
 
 pub returns-then-not-at-most-2 : need.returns-then-not-at-most-2
 returns-then-not-at-most-2 g c =
     let u = g .T·CoordNum .units in
-    overlap-reflects false (box u (c .args .self .now)) (box u (c .args .other .now)) _ _ _ _ (box-ordered u (c .args .self .now)) (box-ordered u (c .args .other .now)) (c .min-min .ensures) (c .max-max .ensures) (c .min-other-min .ensures) (c .max-other-max .ensures) (λ o. c .if-not-at-most-2 .ensures tt (o .1))
+    record {
+      points =
+          overlap-reflects false (box u (c .args .self .now)) (box u (c .args .other .now)) _ _ _ _ (box-ordered u (c .args .self .now)) (box-ordered u (c .args .other .now)) (c .min-min .ensures) (c .max-max .ensures) (c .min-other-min .ensures) (c .max-other-max .ensures) (λ o. c .if-not-at-most-2 .ensures tt (o .1));
+    }
 
 pub returns-then-not-at-most-3 : need.returns-then-not-at-most-3
 returns-then-not-at-most-3 g c =
     let u = g .T·CoordNum .units in
-    overlap-reflects false (box u (c .args .self .now)) (box u (c .args .other .now)) _ _ _ _ (box-ordered u (c .args .self .now)) (box-ordered u (c .args .other .now)) (c .min-min .ensures) (c .max-max .ensures) (c .min-other-min .ensures) (c .max-other-max .ensures) (λ o. c .if-not-at-most-3 .ensures tt (o .2))
+    record {
+      points =
+          overlap-reflects false (box u (c .args .self .now)) (box u (c .args .other .now)) _ _ _ _ (box-ordered u (c .args .self .now)) (box-ordered u (c .args .other .now)) (c .min-min .ensures) (c .max-max .ensures) (c .min-other-min .ensures) (c .max-other-max .ensures) (λ o. c .if-not-at-most-3 .ensures tt (o .2));
+    }
 
 pub returns : need.returns
 returns g c =
     let u = g .T·CoordNum .units in
-    overlap-reflects (c .at-most-4 .result) (box u (c .args .self .now)) (box u (c .args .other .now)) _ _ _ _ (box-ordered u (c .args .self .now)) (box-ordered u (c .args .other .now)) (c .min-min .ensures) (c .max-max .ensures) (c .min-other-min .ensures) (c .max-other-max .ensures)
-    (reflects-same (c .at-most-4 .result) (λ h. (c .if-not-at-most .ensures tt, c .if-not-at-most-2 .ensures tt, c .if-not-at-most-3 .ensures tt, h)) (λ o. o .3) (c .at-most-4 .ensures))
+    record {
+      points =
+          overlap-reflects (c .at-most-4 .result) (box u (c .args .self .now)) (box u (c .args .other .now)) _ _ _ _ (box-ordered u (c .args .self .now)) (box-ordered u (c .args .other .now)) (c .min-min .ensures) (c .max-max .ensures) (c .min-other-min .ensures) (c .max-other-max .ensures)
+          (reflects-same (c .at-most-4 .result) (λ h. (c .if-not-at-most .ensures tt, c .if-not-at-most-2 .ensures tt, c .if-not-at-most-3 .ensures tt, h)) (λ o. o .3) (c .at-most-4 .ensures));
+    }
