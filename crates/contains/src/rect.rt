@@ -6,7 +6,7 @@ use scalar::coord::Coord;
 use scalar::coord::CoordClone;
 use scalar::coord_num::CoordNum;
 ghost use lib.Signed.{_<ℤ_};
-ghost use Rattle.plane.specs.Reflects.{Reflects};
+ghost use Rattle.plane.specs.Reflects.{Reflects, Iff};
 ghost use Rattle.plane.specs.Sets.{Common, Subset, At, InBox, StrictlyInBox, WithinBounds};
 ghost use Rattle.scalar.specs.Coords.{grid-point};
 ghost use Rattle.geometry.specs.Rects.{box};
@@ -21,11 +21,13 @@ pub impl<T: CoordNum> Contains<Coord<T>> for Rect<T> as RectContainsCoord {
     }
 }
 
-// A rectangle within the closed bounds, of which some point is strictly within.
+// A rectangle within the closed bounds, of which some point is strictly within. That the closed bounds lie within means
+// that every point does.
 pub impl<T: CoordNum> Contains<Rect<T>> for Rect<T> as RectContainsRect {
     fn contains(&self, other: &Rect<T>) -> bool
         ensures points { λ r. ⌜ Reflects r (Subset (InBox (box (T·CoordNum .units) (now (other .entry)))) (InBox (box (T·CoordNum .units) (now (self .entry)))) × Common (InBox (box (T·CoordNum .units) (now (other .entry)))) (StrictlyInBox (box (T·CoordNum .units) (now (self .entry))))) ⌝ }
         ensures rule { λ r. ⌜ Reflects r (WithinBounds (box (T·CoordNum .units) (now (self .entry))) (box (T·CoordNum .units) (now (other .entry))) × Common (InBox (box (T·CoordNum .units) (now (other .entry)))) (StrictlyInBox (box (T·CoordNum .units) (now (self .entry))))) ⌝ }
+        ensures bounds { λ _. ⌜ Iff (WithinBounds (box (T·CoordNum .units) (now (self .entry))) (box (T·CoordNum .units) (now (other .entry)))) (Subset (InBox (box (T·CoordNum .units) (now (other .entry)))) (InBox (box (T·CoordNum .units) (now (self .entry))))) ⌝ }
     {
         let (min, max) = (self.min(), self.max());
         let (other_min, other_max) = (other.min(), other.max());

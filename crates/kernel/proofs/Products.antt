@@ -3,7 +3,7 @@ use Prim.Native.Nat.{ℕ, suc, _*_, _≤_}
 use native.Mathlib.Nat.{mul-le-mul}
 use native.Mathlib.Omega.{arith}
 use lib.IntN.{ℤ, pos, negsuc, _*ℤ_, _-ℤ_}
-use lib.Signed.{_≤ℤ_, _<ℤ_}
+use lib.Signed.{_≤ℤ_}
 use mathlib.Core.Path.{_≡_, sym, _∙_, subst}
 use mir.Syntax.{w32, w64}
 use mir.Val.{SFits, toZ, ofZ}
@@ -21,12 +21,12 @@ product-within (pos m) (negsuc n) h k = (omega (arith, ints, product m (suc n) (
 product-within (negsuc m) (pos n) h k = (omega (arith, ints, product (suc m) n (omega (arith, ints)) (omega (arith, ints))), omega (arith, ints, product (suc m) n (omega (arith, ints)) (omega (arith, ints))))
 product-within (negsuc m) (negsuc n) h k = (omega (arith, ints), omega (arith, ints, product (suc m) (suc n) (omega (arith, ints)) (omega (arith, ints))))
 
--- a number of the machine's product
+-- the difference of two such products
 near : (z w : ℤ) → (negsuc 1152921504606846975 ≤ℤ z) × (z ≤ℤ pos 1152921504606846976) → (negsuc 1152921504606846975 ≤ℤ w) × (w ≤ℤ pos 1152921504606846976) → Within61Bits (z -ℤ w)
 near z w h k = (omega (arith, ints), omega (arith, ints))
 
-pub within-61-bits : (a b c e : ℤ) → Difference a → Difference b → Difference c → Difference e → Within61Bits ((a *ℤ b) -ℤ (c *ℤ e))
-within-61-bits a b c e ha hb hc he = near (a *ℤ b) (c *ℤ e) (product-within a b ha hb) (product-within c e hc he)
+pub within-61-bits : (a b c e : ℤ) → Difference a × Difference b × Difference c × Difference e → Within61Bits ((a *ℤ b) -ℤ (c *ℤ e))
+within-61-bits a b c e h = near (a *ℤ b) (c *ℤ e) (product-within a b (h .0) (h .1)) (product-within c e (h .2) (h .3))
 
 pub product-fits : (a b : ℤ) → Difference a → Difference b → SFits w64 (a *ℤ b)
 product-fits a b h k = omega (arith, ints, product-within a b h k)

@@ -1,10 +1,10 @@
 -- The signs of products and differences.
-use Prim.Native.Nat.{ℕ, zero, suc, _*_}
+use Prim.Native.Nat.{zero, suc, _*_}
 use native.Mathlib.Nat.{mul-pos, zero-lt-suc}
 use native.Mathlib.Omega.{arith}
 use lib.IntN.{ℤ, pos, negsuc, negℤ, _*ℤ_, _-ℤ_}
-use lib.Signed.{_≤ℤ_, _<ℤ_}
-use mathlib.Core.Path.{_≡_, refl, sym, _∙_, ap}
+use lib.Signed.{_<ℤ_}
+use mathlib.Core.Path.{_≡_, refl, ap}
 use Rattle.std.proofs.shelf.Signed.{ints}
 use Rattle.kernel.specs.Signs.{signum}
 
@@ -32,9 +32,6 @@ times-down (pos m) b h = absurd (omega (arith, ints))
 times-down (negsuc m) (pos zero) h = sign-none (negsuc m *ℤ pos 0) (omega (arith, ints))
 times-down (negsuc m) (pos (suc n)) h = sign-down (negsuc m *ℤ pos (suc n)) (omega (arith, ints, mul-pos {m = suc m} {n = suc n} (zero-lt-suc m) (zero-lt-suc n)))
 times-down (negsuc m) (negsuc n) h = sign-up (negsuc m *ℤ negsuc n) (omega (arith, ints, mul-pos {m = suc m} {n = suc n} (zero-lt-suc m) (zero-lt-suc n)))
-
-pub times-none : (a b : ℤ) → a ≡ pos 0 → signum (a *ℤ b) ≡ pos 0
-times-none a b e = sign-none (a *ℤ b) (ap (λ z. z *ℤ b) e ∙ omega (arith, ints))
 
 -- where the signs differ, so do the numbers
 pub above : (x y : ℤ) → signum y <ℤ signum x → pos 0 <ℤ (x -ℤ y)

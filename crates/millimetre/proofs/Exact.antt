@@ -2,14 +2,13 @@
 use mathlib.Core.Path.{_≡_, refl, sym, ap, _∙_, subst}
 use mathlib.Core.Bool.{Bool, true, false, not, _&&_, cond, true≢false, false≢true}
 use Prim.Native.Nat.{ℕ, zero, suc, _+_, _-_, _*_, _/_, _%_, _^_, _≤_, _<_}
-use native.Mathlib.Nat.{le-trans, le-of-eq, lt-of-le-of-lt, lt-of-lt-of-le, lt-of-not-le, lt-irrefl, le-of-suc-le-suc, one-mul, mul-one, mul-assoc, mul-comm, mul-right-comm, mul-le-mul-right, le-of-mul-le-mul-right, eq-of-mul-eq-mul-right, mul-div-cancel, mul-mod-left, mul-pos, div-add-mod', zero-mul}
+use native.Mathlib.Nat.{le-trans, le-of-eq, lt-of-le-of-lt, lt-of-not-le, lt-irrefl, le-of-suc-le-suc, one-mul, mul-one, mul-assoc, mul-right-comm, mul-le-mul-right, le-of-mul-le-mul-right, eq-of-mul-eq-mul-right, mul-div-cancel, mul-mod-left, mul-pos, div-add-mod', zero-mul}
 use native.Mathlib.Omega.{arith}
-use lib.Dec.{T, not-T, eqb, leb, ltb, lit<, lit≤, eqb→eq, leb→le, le→leb, ltb→lt, lt→ltb}
-use lib.Pow.{pow-add, pow-pos, pow-lt, pow-mono}
+use lib.Dec.{T, not-T, eqb, leb, ltb, lit<, eqb→eq, leb→le, le→leb, ltb→lt, lt→ltb}
+use lib.Pow.{pow-add, pow-pos, pow-lt}
 use lib.IntN.{ℤ, pos, negsuc, negℤ}
-use lib.Signed.{_≤ℤ_}
 use lib.Ieee.{Float, nan, inf, fin, binary64, up, down, size, fits, round, mul, div, ofInt, ofBits, toBits, top, hid, inFloat, inSigned, toSigned}
-use lib.Ieee.Fits.{eq→eqb, up-pos, down-pos, and-l, and-r, and-i, round-fits, mul-fits, div-fits, ofInt-fits}
+use lib.Ieee.Fits.{eq→eqb, up-pos, down-pos, and-l, and-r, and-i, mul-fits, ofInt-fits}
 use lib.Ieee.Bits.{ofBits-toBits}
 use lib.Ieee.Digits.{back}
 use lib.Ieee.Exact.{HasValue, round-exact}

@@ -1,13 +1,13 @@
 -- The checks of a float that is to be a scalar: what each test of the code says of it.
 use mathlib.Core.Path.{_≡_, refl, sym, ap, _∙_, subst}
-use mathlib.Core.Bool.{Bool, true, false, not, _&&_, _||_, cond, Bool·beq}
-use Prim.Native.Nat.{ℕ, zero, suc, _*_, _/_, _%_, _^_, _≤_, _<_}
+use mathlib.Core.Bool.{Bool, true, false, not, _&&_, _||_, Bool·beq}
+use Prim.Native.Nat.{ℕ, _*_, _/_, _%_, _^_, _≤_, _<_}
 use native.Mathlib.Nat.{le-trans, le-of-eq, mul-one, mul-assoc, mul-comm, mul-right-comm, mul-le-mul-right, le-of-mul-le-mul-right, eq-of-mul-eq-mul-right, mul-div-cancel, mul-mod-left, mul-pos, div-add-mod', div-mul-le-self, zero-div}
 use native.Mathlib.Omega.{arith}
 use lib.Dec.{T, T-not, not-T, eqb, ltb, ltb→lt, lt→ltb, nltb→le, eqb→eq}
-use lib.IntN.{ℤ, pos, negsuc, negℤ}
-use lib.Ieee.{Float, nan, inf, fin, binary64, up, down, fits, round, mul, lt, eq, ne, isNan, ofBits}
-use lib.Ieee.Fits.{eq→eqb, and-l, and-r, and-i, down-pos, round-fits}
+use lib.IntN.{ℤ, pos, negℤ}
+use lib.Ieee.{Float, nan, inf, fin, binary64, up, down, fits, round, mul, lt, eq, isNan, ofBits}
+use lib.Ieee.Fits.{eq→eqb, and-l, and-r, and-i, down-pos}
 use lib.Ieee.Exact.{HasValue}
 use lib.Ieee.Back.{round-whole}
 use Rattle.std.specs.Floats.{withSign, trunc, wholeBy}
@@ -27,12 +27,6 @@ k21-is = refl
 pub zero-is : ofBits binary64 0 ≡ fin false 0 (pos 0)
 unfolding ofBits
 zero-is = refl
-
-pub nan-is : (x : Float) → true ≡ isNan x → x ≡ nan
-unfolding isNan
-nan-is nan h = refl
-nan-is (inf s) h = absurd (yes false (sym h))
-nan-is (fin s m e) h = absurd (yes false (sym h))
 
 -- ---- beyond reach
 
@@ -151,3 +145,27 @@ zero-units (fin s m e) h =
     let a : m * up e * 256 ≡ 0 = omega (arith, eqb→eq (m * up e * 1) (0 * 1 * down e) t) in
     let b : m * up e * 256 / down e ≡ 0 = ap (λ (z : ℕ). z / down e) a ∙ zero-div (down e) in
     elim s as (λ r. units-of (fin r m e) ≡ pos 0) [ true ↦ ap (λ (z : ℕ). negℤ (pos z)) b | false ↦ ap pos b ]
+
+-- ---- the tests that the code makes
+
+both : (a b : Bool) → (T a → T b) → (T (not a) → T (not b)) → a ≡ b
+both true true f g = refl
+both true false f g = absurd (f tt)
+both false true f g = absurd (g tt)
+both false false f g = refl
+
+pub reach-test : (x : Float) → lt (fin false 1 (pos 21)) (withSign false x) ≡ beyond x
+reach-test x = both (lt (fin false 1 (pos 21)) (withSign false x)) (beyond x) (over-reach x) (in-reach x)
+
+nan-differs : eq (mul binary64 nan k256) (trunc binary64 (mul binary64 nan k256)) ≡ false
+unfolding eq mul
+nan-differs = refl
+
+pub whole-test : (x : Float) → T (fits binary64 x) → T (not (beyond x)) → eq (mul binary64 x k256) (trunc binary64 (mul binary64 x k256)) ≡ whole x
+unfolding isNan
+whole-test nan F b = nan-differs
+whole-test (inf s) F b = absurd b
+whole-test (fin s m e) F b =
+    let k = whole-says (fin s m e) F tt b in
+    let a = eq (mul binary64 (fin s m e) k256) (trunc binary64 (mul binary64 (fin s m e) k256)) in
+    both a (whole (fin s m e)) (k .0) (λ n. not-T (whole (fin s m e)) (λ w. T-not a n (k .1 w)))

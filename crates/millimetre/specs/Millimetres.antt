@@ -1,10 +1,10 @@
 -- Floats in millimetres on the grid of 1/256 millimetre. A finite float `fin s m e` is m * 2 ^ e, or minus that where s
 -- is true, and 2 ^ e is `up e` / `down e`.
-use Prim.Native.Nat.{ℕ, _*_, _/_, _%_}
-use mathlib.Core.Bool.{Bool, true, false, not, _&&_, cond}
-use lib.Dec.{eqb, leb, ltb}
+use Prim.Native.Nat.{_*_, _/_, _%_}
+use mathlib.Core.Bool.{Bool, true, false, not, _&&_}
+use lib.Dec.{eqb, ltb}
 use lib.IntN.{ℤ, pos, negℤ}
-use lib.Ieee.{Float, nan, inf, fin, up, down, eq}
+use lib.Ieee.{Float, nan, inf, fin, up, down}
 
 -- 256 times x, cut to a whole number
 abbrev pub units-of : Float → ℤ
@@ -34,7 +34,3 @@ minus-zero (fin s m e) = s && eqb m 0
 -- x may be a scalar's float: 256 times x is whole and within reach, and x is not -0.0
 abbrev pub on-grid : Float → Bool
 on-grid x = whole x && not (beyond x) && not (minus-zero x)
-
--- x, with -0.0 as 0.0
-abbrev pub plain : Float → Float
-plain x = cond (eq x (fin false 0 (pos 0))) (fin false 0 (pos 0)) x

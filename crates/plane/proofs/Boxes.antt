@@ -1,14 +1,12 @@
 -- Rectangles.
-use Prim.Native.Nat.{ℕ, zero, suc, _+_, _*_, _≤_, _<_}
+use Prim.Native.Nat.{ℕ, _+_, _*_, _≤_, _<_}
 use native.Mathlib.Omega.{arith}
-use mathlib.Core.Path.{_≡_, refl, sym, ap, _∙_, subst}
-use mathlib.Core.Logic.{_⊎_, inl, inr}
-use lib.IntN.{ℤ, pos, negsuc, _+ℤ_, _-ℤ_, _*ℤ_, negℤ, *ℤ-comm, natAbs}
+use lib.IntN.{ℤ, pos, _+ℤ_, _*ℤ_}
 use lib.Signed.{_≤ℤ_, _<ℤ_}
 use Rattle.std.proofs.shelf.Signed.{ints, by-ltZ}
 use Rattle.plane.specs.Sets.{Common, Subset, Box, InBox, StrictlyInBox, WithinBounds}
 use Rattle.plane.proofs.Terms.{Ordered, Overlap, Into}
-use Rattle.plane.proofs.Integers.{ring, lin, le-mul, lt-mul, cancel-le, *ℤ-one-pos}
+use Rattle.plane.proofs.Integers.{lin, le-mul, cancel-le, *ℤ-one-pos}
 
 pub whole-in : (r : Box) (x y : ℤ) → (r .min .x ≤ℤ x) × (x ≤ℤ r .max .x) × (r .min .y ≤ℤ y) × (y ≤ℤ r .max .y) → InBox r x y 1
 whole-in r x y h = record { left = simp *ℤ-one-pos (h .0); right = simp *ℤ-one-pos (h .1); under = simp *ℤ-one-pos (h .2); over = simp *ℤ-one-pos (h .3) }

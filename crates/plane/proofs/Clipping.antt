@@ -1,19 +1,19 @@
 -- A rectangle and a segment.
-use Prim.Native.Nat.{ℕ, zero, suc, _+_, _*_, _≤_, _<_}
+use Prim.Native.Nat.{ℕ, _+_, _*_, _≤_, _<_}
 use native.Mathlib.Omega.{arith}
-use mathlib.Core.Path.{_≡_, refl, sym, ap, _∙_, subst}
+use mathlib.Core.Path.{_≡_, ap}
 use mathlib.Core.Logic.{_⊎_, inl, inr}
-use lib.IntN.{ℤ, pos, negsuc, _+ℤ_, _-ℤ_, _*ℤ_, negℤ, *ℤ-comm, natAbs}
+use lib.IntN.{ℤ, pos, _+ℤ_, _-ℤ_, _*ℤ_, negℤ, natAbs}
 use lib.Signed.{_≤ℤ_, _<ℤ_}
 use Rattle.std.proofs.shelf.Signed.{ints, by-ltZ}
 use Rattle.plane.specs.Points.{Segment, On, Between}
 use Rattle.plane.specs.Sets.{Common, Box, InBox}
 use Rattle.plane.proofs.Terms.{Ordered, side, reversed, transposed, transposed-box, mirrored, mirrored-box, RangesOverlap, Overlapping, OneSide}
-use Rattle.plane.proofs.Integers.{ring, lin, mul-up, mul-pos, le-mul, lt-mul, mul-add, mul-neg, neg-mul, *ℤ-one-pos}
-use Rattle.plane.proofs.Division.{on-at, by-sign}
-use Rattle.plane.proofs.Crossing.{on-turn, on-flip, side-turned}
+use Rattle.plane.proofs.Integers.{ring, lin, mul-up, mul-pos, le-mul, lt-mul, mul-neg, neg-mul}
+use Rattle.plane.proofs.Division.{on-at}
+use Rattle.plane.proofs.Crossing.{abs-is, at-least-one, on-turn, on-flip, side-turned}
 use Rattle.plane.proofs.Collinear.{start-on}
-use Rattle.plane.proofs.Boxes.{whole-in, below}
+use Rattle.plane.proofs.Boxes.{whole-in}
 
 -- ---- a point in common: the ranges overlap, and the corners are not all on one side
 laps-no : (lo hi p q X : ℤ) (d : ℕ) → 1 ≤ d → (pos d *ℤ lo) ≤ℤ X → X ≤ℤ (pos d *ℤ hi) → Between X (pos d *ℤ p) (pos d *ℤ q) → RangesOverlap lo hi p q
@@ -78,10 +78,6 @@ aside-no r s m (inr f) = elim (aside-turn r s (inr f)) [ inl g ↦ left-no r (re
     twist h k e = omega (arith, lin)
 
 -- ---- the other way: where the segment enters
-abs-is : (z : ℤ) → pos 0 ≤ℤ z → pos (natAbs z) ≡ z
-abs-is (pos z) h = refl
-abs-is (negsuc z) h = absurd (omega (arith, ints))
-
 -- at the left side
 enters : (r : Box) (s : Segment) → s .p .x <ℤ r .min .x → r .min .x ≤ℤ s .q .x → r .min .x ≤ℤ r .max .x → side s (r .min .x) (r .min .y) ≤ℤ pos 0 → pos 0 ≤ℤ side s (r .min .x) (r .max .y) → Common (InBox r) (On s)
 enters r s a b c f g =
@@ -93,7 +89,7 @@ enters r s a b c f g =
       X = pos d *ℤ r .min .x;
       Y = pos d *ℤ s .p .y +ℤ n *ℤ (s .q .y -ℤ s .p .y);
       d = d;
-      positive = at-least d D is (omega (arith, lin));
+      positive = at-least-one d D is (omega (arith, lin));
       first = record {
         left = omega (arith, lin);
         right = le-mul (pos d) _ _ (omega (arith, ints)) c;
@@ -103,9 +99,6 @@ enters r s a b c f g =
       second = on-at s _ _ d n (omega (arith, lin)) (omega (arith, lin)) (at-x D (pos d) (r .min .x) (s .p .x) is) (omega (arith, lin));
     }
   where
-    at-least : (d : ℕ) (D : ℤ) → pos d ≡ D → pos 0 <ℤ D → 1 ≤ d
-    at-least d D e h = omega (arith, ints)
-
     at-x : (D c l p : ℤ) → c ≡ D → c *ℤ l -ℤ c *ℤ p ≡ (l -ℤ p) *ℤ D
     at-x D c l p e = simp ring (omega (arith, lin, ap (λ (z : ℤ). z *ℤ l) e, ap (λ (z : ℤ). z *ℤ p) e))
 

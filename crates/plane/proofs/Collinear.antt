@@ -1,19 +1,18 @@
 -- Two segments on one line.
-use Prim.Native.Nat.{ℕ, zero, suc, _+_, _*_, _≤_, _<_}
+use Prim.Native.Nat.{ℕ, _+_, _*_, _≤_, _<_}
 use native.Mathlib.Omega.{arith}
-use mathlib.Core.Path.{_≡_, refl, sym, ap, _∙_, subst, subst₂}
+use mathlib.Core.Path.{_≡_, sym, ap, _∙_, subst₂}
 use mathlib.Core.Logic.{_⊎_, inl, inr}
-use lib.IntN.{ℤ, pos, negsuc, _+ℤ_, _-ℤ_, _*ℤ_, negℤ, *ℤ-comm, natAbs}
-use lib.Signed.{_≤ℤ_, _<ℤ_}
+use lib.IntN.{ℤ, pos, _+ℤ_, _-ℤ_, _*ℤ_, *ℤ-comm}
+use lib.Signed.{_<ℤ_}
 use Rattle.std.proofs.shelf.Signed.{ints, by-ltZ}
 use Rattle.plane.specs.declared.grid_point.GridPoint.{GridPoint}
 use Rattle.plane.specs.Points.{LongerThanZero, Segment, On, Between, Ranges}
-use Rattle.plane.specs.Sets.{Common}
 use Rattle.plane.proofs.Terms.{Along, Meet, side, reversed, transposed}
-use Rattle.plane.proofs.Integers.{ring, lin, lt-mul, cancel-le, cancel-eq, cancel-apart, mul-neg, neg-mul, *ℤ-one-pos, *ℤ-pos-one}
+use Rattle.plane.proofs.Integers.{ring, lin, lt-mul, cancel-le, cancel-eq, cancel-apart, *ℤ-one-pos}
 use Rattle.plane.proofs.Slopes.{on-along}
 use Rattle.plane.proofs.Division.{by-sign}
-use Rattle.plane.proofs.Crossing.{on-turn, on-flip, side-q, side-p′, side-q′, meet-turns}
+use Rattle.plane.proofs.Crossing.{between-swapped, on-turn, on-flip, side-q, side-q′}
 
 pub same-point : (a b : GridPoint) → a .x ≡ b .x → a .y ≡ b .y → a ≡ b
 same-point a b e f = λ i. record { x = e i; y = f i }
@@ -69,12 +68,8 @@ level-x s t l g m =
       ]
     ]
 
-other : {v a b : ℤ} → Between v a b → Between v b a
-other (inl h) = inr h
-other (inr h) = inl h
-
 ranges-turn : (s : Segment) (x y : ℤ) → Ranges (reversed s) x y → Ranges s x y
-ranges-turn s x y h = (other (h .0), other (h .1))
+ranges-turn s x y h = (between-swapped (h .0), between-swapped (h .1))
 
 level-slant : (s t : Segment) → (s .p .x ≡ s .q .x → ⊥) → Along s t → Meet s t → Ends s t
 level-slant s t n g m =

@@ -1,22 +1,22 @@
 -- Which shapes hold others: every point of the inner is one of the outer, and some point of it is in the outer's interior.
 use Prim.Native.Nat.{ℕ, _≤_}
 use native.Mathlib.Omega.{arith}
-use mathlib.Core.Path.{_≡_, refl, sym, ap, _∙_, subst, subst₂}
+use mathlib.Core.Path.{_≡_, sym, ap, _∙_, subst, subst₂}
 use mathlib.Core.Logic.{_⊎_, inl, inr}
 use mathlib.Core.Bool.{Bool}
 use lib.IntN.{ℤ, pos, _+ℤ_, _-ℤ_, _*ℤ_}
 use lib.Signed.{_≤ℤ_, _<ℤ_}
 use Rattle.std.proofs.shelf.Signed.{ints, by-ltZ}
 use Rattle.plane.specs.declared.grid_point.GridPoint.{GridPoint}
-use Rattle.plane.specs.Reflects.{Reflects}
+use Rattle.plane.specs.Reflects.{Reflects, Iff}
 use Rattle.plane.specs.Points.{Segment, On, Between, Touches, LongerThanZero}
-use Rattle.plane.specs.Sets.{Common, Subset, At, Interior, ContainsByEnds, Box, spanned, InBox, StrictlyInBox, WithinBounds}
+use Rattle.plane.specs.Sets.{Common, Subset, At, Interior, ContainsByEnds, Box, InBox, StrictlyInBox, WithinBounds}
 use Rattle.plane.proofs.Terms.{Ordered, Into}
 use Rattle.plane.proofs.Integers.{ring, lin, le-mul, cancel-eq, *ℤ-one-pos}
 use Rattle.plane.proofs.Answers.{reflects-same}
-use Rattle.plane.proofs.Division.{Part, part, on-at, by-sign}
+use Rattle.plane.proofs.Division.{part, on-at}
 use Rattle.plane.proofs.Boxes.{below, inside-yes, inside-no, into-yes, into-no}
-use Rattle.plane.proofs.Collinear.{same-point, start-on, end-on, unscaled}
+use Rattle.plane.proofs.Collinear.{same-point, start-on, end-on}
 use Rattle.plane.proofs.Segments.{at-self, common-touch}
 
 -- ---- a segment over a grid point
@@ -113,6 +113,10 @@ convex s t h k X Y d n o =
       in-y = nested (pos d) (s .p .y) (s .q .y) (t .p .y) (t .q .y) Y z (simp *ℤ-one-pos at (h .in-y)) (simp *ℤ-one-pos at (k .in-y)) (o .in-y);
     }
 
+-- Both ends touch exactly if every point does.
+pub ends-are-points : (s t : Segment) → Iff (Touches s (t .p) × Touches s (t .q)) (Subset (On t) (On s))
+ends-are-points s t = ((λ h. convex s t (h .0) (h .1)), (λ h. (h (t .p .x) (t .p .y) 1 (omega arith) (start-on t), h (t .q .x) (t .q .y) 1 (omega arith) (end-on t))))
+
 -- two numbers between a and b whose middle is a, or b, are equal
 squeezed : (a b u v : ℤ) → Between u a b → Between v a b → (u +ℤ v ≡ pos 2 *ℤ a) ⊎ (u +ℤ v ≡ pos 2 *ℤ b) → u ≡ v
 squeezed a b u v h k (inl e) = by-ltZ a b (λ l. omega (arith, ints, h, k)) (λ l. omega (arith, ints, h, k))
@@ -154,7 +158,7 @@ ends-contain s t h (inr n) =
 pub contain-ends : (s t : Segment) → Subset (On t) (On s) × Common (On t) (Interior s) → ContainsByEnds s t
 contain-ends s t b = record {
   point = λ z. let m = b .1 in back z m;
-  longer = λ n. (b .0 (t .p .x) (t .p .y) 1 (omega arith) (start-on t), b .0 (t .q .x) (t .q .y) 1 (omega arith) (end-on t));
+  longer = λ n. ends-are-points s t .1 (b .0);
 }
   where
     back : t .p ≡ t .q → Common (On t) (Interior s) → Interior s (t .p .x) (t .p .y) 1
@@ -201,5 +205,8 @@ pub bounds-reflect : (b : Bool) (r q : Box) → Ordered q → WithinBounds r q �
 bounds-reflect b r q u o h = reflects-same b (λ i. (o, into-yes r q u o i)) (λ c. into-no r q (c .1)) h
 
 -- The closed bounds lie within exactly if every point does.
+pub bounds-are-points : (r q : Box) → Ordered q → Iff (WithinBounds r q) (Subset (InBox q) (InBox r))
+bounds-are-points r q u = (inside-yes r q, inside-no r q u)
+
 pub bounds-points : (b : Bool) (r q : Box) → Ordered q → Reflects b (WithinBounds r q × Common (InBox q) (StrictlyInBox r)) → Reflects b (Subset (InBox q) (InBox r) × Common (InBox q) (StrictlyInBox r))
-bounds-points b r q u h = reflects-same b (λ k. (inside-yes r q (k .0), k .1)) (λ k. (inside-no r q u (k .0), k .1)) h
+bounds-points b r q u h = let i = bounds-are-points r q u in reflects-same b (λ k. (i .0 (k .0), k .1)) (λ k. (i .1 (k .0), k .1)) h

@@ -1,16 +1,16 @@
 -- Two segments and the sides of their ends.
-use Prim.Native.Nat.{ℕ, zero, suc, _+_, _*_, _≤_, _<_}
+use Prim.Native.Nat.{ℕ, _+_, _*_, _≤_, _<_}
 use native.Mathlib.Omega.{arith}
-use mathlib.Core.Path.{_≡_, refl, sym, ap, _∙_, subst}
-use mathlib.Core.Logic.{_⊎_, inl, inr}
-use lib.IntN.{ℤ, pos, negsuc, _+ℤ_, _-ℤ_, _*ℤ_, negℤ, *ℤ-comm, natAbs}
+use mathlib.Core.Path.{_≡_, refl, sym, ap}
+use mathlib.Core.Logic.{inl, inr}
+use lib.IntN.{ℤ, pos, negsuc, _+ℤ_, _-ℤ_, _*ℤ_, negℤ, natAbs}
 use lib.Signed.{_≤ℤ_, _<ℤ_}
 use Rattle.std.proofs.shelf.Signed.{ints, by-ltZ}
 use Rattle.plane.specs.Points.{Segment, On, Between}
 use Rattle.plane.specs.Sets.{Common}
 use Rattle.plane.proofs.Terms.{Meet, side, reversed, transposed}
-use Rattle.plane.proofs.Integers.{ring, lin, mul-up, mul-pos, le-mul, lt-mul, cancel-up, cancel-le, cancel-eq, mul-add, add-mul, mul-neg, neg-mul, *ℤ-one-pos, *ℤ-pos-one}
-use Rattle.plane.proofs.Division.{Part, part, on-at, by-sign}
+use Rattle.plane.proofs.Integers.{ring, lin, mul-up, mul-pos, mul-add, mul-neg, *ℤ-pos-one}
+use Rattle.plane.proofs.Division.{part, on-at, by-sign}
 
 -- two weights of which not both are 0 add two numbers up to 0
 weighs : (m n a b : ℤ) → pos 0 ≤ℤ m → pos 0 ≤ℤ n → pos 0 <ℤ (m +ℤ n) → m *ℤ a +ℤ n *ℤ b ≡ pos 0 → Between (pos 0) a b
@@ -55,9 +55,18 @@ straddles s t m =
 pub meet-turns : {P Q : ℤ → ℤ → ℕ → Type 0} → Common P Q → Common Q P
 meet-turns m = record { X = m .X; Y = m .Y; d = m .d; positive = m .positive; first = m .second; second = m .first }
 
-abs-is : (z : ℤ) → pos 0 ≤ℤ z → pos (natAbs z) ≡ z
+-- the size of a number that is not negative, as a denominator
+pub abs-is : (z : ℤ) → pos 0 ≤ℤ z → pos (natAbs z) ≡ z
 abs-is (pos z) h = refl
 abs-is (negsuc z) h = absurd (omega (arith, ints))
+
+pub at-least-one : (d : ℕ) (D : ℤ) → pos d ≡ D → pos 0 <ℤ D → 1 ≤ d
+at-least-one d D e h = omega (arith, ints)
+
+-- the bounds the other way round
+pub between-swapped : {v a b : ℤ} → Between v a b → Between v b a
+between-swapped (inl h) = inr h
+between-swapped (inr h) = inl h
 
 -- Cramer's rule: the point of t at o1 parts of o1 - o2 lies on s
 rule : (dx dy ex ey a b : ℤ) → ((dx *ℤ b -ℤ dy *ℤ a) -ℤ (dx *ℤ (b +ℤ ey) -ℤ dy *ℤ (a +ℤ ex))) *ℤ a +ℤ (dx *ℤ b -ℤ dy *ℤ a) *ℤ ex ≡ negℤ (ex *ℤ negℤ b -ℤ ey *ℤ negℤ a) *ℤ dx
@@ -121,14 +130,11 @@ crossing s t l m n =
       X = D *ℤ t .p .x +ℤ o1 *ℤ (t .q .x -ℤ t .p .x);
       Y = D *ℤ t .p .y +ℤ o1 *ℤ (t .q .y -ℤ t .p .y);
       d = d;
-      positive = at-least d D is (omega (arith, lin));
+      positive = at-least-one d D is (omega (arith, lin));
       first = on-at s _ _ d (negℤ o3) (omega (arith, lin, n)) (omega (arith, lin, n)) (from D (t .p .x) (s .p .x) _ _ (pos d) is rx) (from D (t .p .y) (s .p .y) _ _ (pos d) is ry);
       second = on-at t _ _ d o1 (omega (arith, lin, m)) (omega (arith, lin, m)) (own D (t .p .x) _ (pos d) is) (own D (t .p .y) _ (pos d) is);
     }
   where
-    at-least : (d : ℕ) (D : ℤ) → pos d ≡ D → pos 0 <ℤ D → 1 ≤ d
-    at-least d D e h = omega (arith, ints)
-
     from : (D p q n m c : ℤ) → c ≡ D → D *ℤ (p -ℤ q) +ℤ n ≡ m → (D *ℤ p +ℤ n) -ℤ c *ℤ q ≡ m
     from D p q n m c e h = omega (arith, lin, mul-add D p (negℤ q), mul-neg D q, ap (λ (z : ℤ). z *ℤ q) e)
 
@@ -137,14 +143,10 @@ crossing s t l m n =
 
 pub on-turn : (s : Segment) {X Y : ℤ} {d : ℕ} → On s X Y d → On (reversed s) X Y d
 on-turn s {X} {Y} {d} h =
-    record { line = turn-line (s .p .x) (s .p .y) (s .q .x) (s .q .y) X Y (pos d) (h .line); in-x = other (h .in-x); in-y = other (h .in-y) }
+    record { line = turn-line (s .p .x) (s .p .y) (s .q .x) (s .q .y) X Y (pos d) (h .line); in-x = between-swapped (h .in-x); in-y = between-swapped (h .in-y) }
   where
     turn-line : (px py qx qy X Y d : ℤ) → (qx -ℤ px) *ℤ (Y -ℤ d *ℤ py) ≡ (qy -ℤ py) *ℤ (X -ℤ d *ℤ px) → (px -ℤ qx) *ℤ (Y -ℤ d *ℤ qy) ≡ (py -ℤ qy) *ℤ (X -ℤ d *ℤ qx)
     turn-line px py qx qy X Y d e = simp ring (omega (arith, lin, simp ring at e))
-
-    other : {v a b : ℤ} → Between v a b → Between v b a
-    other (inl h) = inr h
-    other (inr h) = inl h
 
 pub on-flip : (s : Segment) {X Y : ℤ} {d : ℕ} → On s X Y d → On (transposed s) Y X d
 on-flip s h = record { line = sym (h .line); in-x = h .in-y; in-y = h .in-x }
@@ -157,14 +159,10 @@ pub cross-yes : (s t : Segment) → (side s (t .p .x) (t .p .y) ≡ side s (t .q
 cross-yes s t a m n =
     by-sign (side s (t .p .x) (t .p .y)) (side s (t .q .x) (t .q .y))
     (λ l. let e = side-turned t (s .p .x) (s .p .y) in let f = side-turned t (s .q .x) (s .q .y) in
-    turn-second s t (crossing s (reversed t) l (other m) (opposed _ _ _ _ e f n)))
+    turn-second s t (crossing s (reversed t) l (between-swapped m) (opposed _ _ _ _ e f n)))
     (λ l. crossing s t l m n)
     (λ e. absurd (a e))
   where
-    other : {v a b : ℤ} → Between v a b → Between v b a
-    other (inl h) = inr h
-    other (inr h) = inl h
-
     opposed : (a b a′ b′ : ℤ) → a′ ≡ negℤ a → b′ ≡ negℤ b → Between (pos 0) a b → Between (pos 0) a′ b′
     opposed a b a′ b′ e f (inl h) = inr (omega (arith, lin))
     opposed a b a′ b′ e f (inr h) = inl (omega (arith, lin))

@@ -1,13 +1,13 @@
 -- A point of a segment divides it: parts k of d * e.
-use Prim.Native.Nat.{ℕ, zero, suc, _+_, _*_, _≤_, _<_}
+use Prim.Native.Nat.{ℕ, _*_, _≤_, _<_}
 use native.Mathlib.Omega.{arith}
-use mathlib.Core.Path.{_≡_, refl, sym, ap, _∙_, subst}
-use mathlib.Core.Logic.{_⊎_, inl, inr}
-use lib.IntN.{ℤ, pos, negsuc, _+ℤ_, _-ℤ_, _*ℤ_, negℤ, *ℤ-comm, natAbs}
+use mathlib.Core.Path.{_≡_, sym, ap, _∙_}
+use mathlib.Core.Logic.{inl, inr}
+use lib.IntN.{ℤ, pos, _-ℤ_, _*ℤ_, *ℤ-comm}
 use lib.Signed.{_≤ℤ_, _<ℤ_}
 use Rattle.std.proofs.shelf.Signed.{ints, by-ltZ}
 use Rattle.plane.specs.Points.{Segment, On, Between}
-use Rattle.plane.proofs.Integers.{ring, lin, mul-up, mul-pos, le-mul, lt-mul, cancel-up, cancel-le, cancel-eq, mul-add, add-mul, mul-neg, neg-mul, *ℤ-one-pos}
+use Rattle.plane.proofs.Integers.{ring, lin, mul-up, le-mul, *ℤ-one-pos}
 
 pub record Part (s : Segment) (X Y : ℤ) (d : ℕ) : Type 0 where
   pub e : ℤ

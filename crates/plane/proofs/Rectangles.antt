@@ -1,11 +1,11 @@
 -- What comparisons and turns tell of boxes, and of a box and a segment or a grid point.
-use Prim.Native.Nat.{ℕ, _≤_}
+use Prim.Native.Nat.{_≤_}
 use native.Mathlib.Omega.{arith}
-use mathlib.Core.Path.{_≡_, refl, sym, ap, _∙_, subst₂}
-use mathlib.Core.Logic.{_⊎_, inl, inr}
+use mathlib.Core.Path.{_≡_, refl, sym, _∙_}
+use mathlib.Core.Logic.{inl, inr}
 use mathlib.Core.Bool.{Bool}
-use lib.IntN.{ℤ, pos, _+ℤ_, _*ℤ_}
-use lib.Signed.{_≤ℤ_, _<ℤ_}
+use lib.IntN.{ℤ, pos, _*ℤ_}
+use lib.Signed.{_≤ℤ_}
 use Rattle.std.proofs.shelf.Signed.{ints, by-ltZ, clamps}
 use Rattle.std.specs.Numbers.{minZ, maxZ}
 use Rattle.plane.specs.declared.grid_point.GridPoint.{GridPoint}
@@ -14,13 +14,13 @@ use Rattle.plane.specs.declared.orientation.Orientation.the-variants.{CounterC
 use Rattle.plane.specs.Orient.{orientation}
 use Rattle.plane.specs.Reflects.{Reflects}
 use Rattle.plane.specs.Points.{Segment, On, Between}
-use Rattle.plane.specs.Sets.{Common, Subset, At, Box, spanned, InBox, StrictlyInBox, WithinBounds}
-use Rattle.plane.proofs.Terms.{Ordered, RangesOverlap, Overlapping, OneSide, Overlap, Into, side}
-use Rattle.plane.proofs.Integers.{lin, le-mul, *ℤ-one-pos}
+use Rattle.plane.specs.Sets.{Common, At, Box, spanned, InBox}
+use Rattle.plane.proofs.Terms.{Ordered, RangesOverlap, Overlapping, OneSide, Overlap, side}
+use Rattle.plane.proofs.Integers.{lin, le-mul}
 use Rattle.plane.proofs.Answers.{reflects-same}
 use Rattle.plane.proofs.Orientations.{left-turn, right-turn, left-of, right-of, left-not-level, right-not-level, turn, turn-side}
-use Rattle.plane.proofs.Boxes.{whole-in, in-whole, less, below, boxes-yes, boxes-no, inside-yes, inside-no, into-yes, into-no}
-use Rattle.plane.proofs.Clipping.{clip-yes, near-no, aside-no}
+use Rattle.plane.proofs.Boxes.{whole-in, less, boxes-yes, boxes-no}
+use Rattle.plane.proofs.Clipping.{clip-yes, aside-no}
 use Rattle.plane.proofs.Segments.{at-self}
 
 pub spanned-ordered : (p q : GridPoint) → Ordered (spanned p q)

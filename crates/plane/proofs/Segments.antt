@@ -1,17 +1,16 @@
 -- What the turns of their ends tell of two segments, and of a segment and a grid point.
 use Prim.Native.Nat.{ℕ, _≤_}
 use native.Mathlib.Omega.{arith}
-use mathlib.Core.Path.{_≡_, refl, sym, ap, _∙_, subst, subst₂}
+use mathlib.Core.Path.{_≡_, sym, ap, _∙_, subst, subst₂}
 use mathlib.Core.Logic.{_⊎_, inl, inr}
 use mathlib.Core.Bool.{Bool}
 use lib.IntN.{ℤ, pos, _-ℤ_, _*ℤ_}
 use Rattle.std.proofs.shelf.Signed.{ints}
 use Rattle.plane.specs.declared.grid_point.GridPoint.{GridPoint}
-use Rattle.plane.specs.declared.orientation.Orientation.{Orientation}
 use Rattle.plane.specs.declared.orientation.Orientation.the-variants.{Collinear}
 use Rattle.plane.specs.Reflects.{Reflects}
 use Rattle.plane.specs.Orient.{orientation}
-use Rattle.plane.specs.Points.{Segment, On, Between, Touches, LongerThanZero, Ranges}
+use Rattle.plane.specs.Points.{Segment, On, Touches, LongerThanZero, Ranges}
 use Rattle.plane.specs.Sets.{Common, At}
 use Rattle.plane.proofs.Terms.{Meet, Along, side}
 use Rattle.plane.proofs.Integers.{lin, cancel-eq}
@@ -37,12 +36,6 @@ touch-common s c o = record { X = c .x; Y = c .y; d = 1; positive = omega arith;
 
 pub common-touch : (s : Segment) (c : GridPoint) → Common (On s) (At c) → Touches s c
 common-touch s c m = unscaled s (c .x) (c .y) (m .d) (m .positive) (subst₂ (λ (X Y : ℤ). On s X Y (m .d)) (m .second .at-x) (m .second .at-y) (m .first))
-
-pub touch-reflects-common : (r : Bool) (s : Segment) (c : GridPoint) → turn s c ≡ Collinear → Reflects r (Ranges s (c .x) (c .y)) → Reflects r (Common (On s) (At c))
-touch-reflects-common r s c e h = reflects-same r (touch-common s c) (common-touch s c) (touch-reflects r s c e h)
-
-pub common-collinear : (s : Segment) (c : GridPoint) → Common (On s) (At c) → turn s c ≡ Collinear
-common-collinear s c m = touch-collinear s c (common-touch s c m)
 
 -- the same two sets the other way round
 pub swap-reflects : (r : Bool) (P Q : ℤ → ℤ → ℕ → Type 0) → Reflects r (Common P Q) → Reflects r (Common Q P)

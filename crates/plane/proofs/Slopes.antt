@@ -1,14 +1,14 @@
 -- Points on a line that is not upright.
-use Prim.Native.Nat.{ℕ, zero, suc, _+_, _*_, _≤_, _<_}
+use Prim.Native.Nat.{ℕ, _*_, _≤_, _<_}
 use native.Mathlib.Omega.{arith}
-use mathlib.Core.Path.{_≡_, refl, sym, ap, _∙_}
+use mathlib.Core.Path.{_≡_, ap}
 use mathlib.Core.Logic.{_⊎_, inl, inr}
-use lib.IntN.{ℤ, pos, negsuc, _+ℤ_, _-ℤ_, _*ℤ_, negℤ, *ℤ-comm}
+use lib.IntN.{ℤ, pos, _-ℤ_, _*ℤ_, negℤ}
 use lib.Signed.{_≤ℤ_, _<ℤ_}
-use Rattle.std.proofs.shelf.Signed.{ints, by-ltZ}
+use Rattle.std.proofs.shelf.Signed.{by-ltZ}
 use Rattle.plane.specs.Points.{Segment, On, Between}
 use Rattle.plane.proofs.Terms.{Along}
-use Rattle.plane.proofs.Integers.{ring, lin, mul-up, mul-pos, le-mul, lt-mul, cancel-up, cancel-le, cancel-eq, cancel-apart, mul-add, add-mul, mul-neg, neg-mul}
+use Rattle.plane.proofs.Integers.{ring, lin, mul-up, cancel-up, cancel-eq, mul-neg, neg-mul}
 
 -- two vectors along a third that is not upright are along one another
 pub cross : (dx dy u1 u2 w1 w2 : ℤ) → pos 0 <ℤ dx → dx *ℤ w2 ≡ dy *ℤ w1 → dx *ℤ u2 ≡ dy *ℤ u1 → u1 *ℤ w2 ≡ u2 *ℤ w1

@@ -1,11 +1,11 @@
 -- Terms that the proofs share and no contract speaks of.
-use Prim.Native.Nat.{ℕ, _≤_, _<_}
+use Prim.Native.Nat.{_≤_, _<_}
 use mathlib.Core.Path.{_≡_}
 use mathlib.Core.Logic.{_⊎_}
-use lib.IntN.{ℤ, pos, _+ℤ_, _-ℤ_, _*ℤ_, negℤ}
+use lib.IntN.{ℤ, pos, _-ℤ_, _*ℤ_, negℤ}
 use lib.Signed.{_≤ℤ_, _<ℤ_}
-use Rattle.plane.specs.Points.{Segment, On, Between}
-use Rattle.plane.specs.Sets.{Common, Subset, Box, InBox, StrictlyInBox}
+use Rattle.plane.specs.Points.{Segment, On}
+use Rattle.plane.specs.Sets.{Common, Box}
 
 -- two segments have a point in common
 abbrev pub Meet : Segment → Segment → Type 0

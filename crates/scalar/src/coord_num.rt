@@ -35,7 +35,7 @@ pub trait CoordNum: Copy {
 
     // A number that makes this scalar again.
     fn raw(self) -> Self::Raw
-        ensures { λ r. ⌜ (refusal r ≡ None) × (measure r ≡ units self) ⌝ };
+        ensures remakes { λ r. ⌜ (refusal r ≡ None) × (measure r ≡ units self) ⌝ };
 
     fn to_units(self) -> i32
         ensures { λ r. ⌜ r ≡ units self ⌝ };

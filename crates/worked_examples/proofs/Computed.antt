@@ -7,8 +7,7 @@ use lib.Dec.{T, leb, leb→le}
 use lib.IntN.{ℤ, pos, _-ℤ_, _*ℤ_}
 use lib.Ieee.Fits.{and-l, and-r}
 use native.Mathlib.Omega.{arith}
-use lib.Signed.{_≤ℤ_, _<ℤ_, leZ, ltZ, leZ-yes, ltZ-yes}
-use Rattle.plane.specs.declared.grid_point.GridPoint.{GridPoint}
+use lib.Signed.{_≤ℤ_, leZ, ltZ, leZ-yes, ltZ-yes}
 use Rattle.plane.specs.declared.orientation.Orientation.{Orientation}
 use Rattle.plane.specs.declared.orientation.Orientation.the-variants.{CounterClockwise, Clockwise, Collinear}
 use Rattle.plane.specs.Orient.{det, orientation}

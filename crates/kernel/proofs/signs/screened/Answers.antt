@@ -1,52 +1,42 @@
 use native.Mathlib.Omega.{arith}
-use mathlib.Core.Path.{_≡_, _∙_, ap}
+use mathlib.Core.Path.{_≡_}
 use lib.IntN.{ℤ, _*ℤ_, _-ℤ_}
 use mir.Syntax.{w64}
-use mir.Val.{SFits}
-use borrow.Author.Needs.{needs}
+use mir.Val.{SFits, toZ, ofZ}
 use Rattle.std.proofs.shelf.Signed.{ints, toZ-ofZ}
-use Rattle.plane.specs.Orient.{orientation, Within61Bits}
 use Rattle.plane.proofs.Orientations.{left-turn, right-turn, no-turn}
+use Rattle.kernel.specs.Signs.{signum}
 use Rattle.kernel.proofs.Products.{within-61-bits}
 use Rattle.kernel.proofs.SignLaws.{above, under, no-sign}
 use Rattle.kernel.proofs.signs.screened.Needs as need
 
+-- the sign of a product of numbers as the machine passes them on
+sign-held : (a b s : ℤ) → SFits w64 a → SFits w64 b → s ≡ signum (toZ w64 (ofZ w64 a) *ℤ toZ w64 (ofZ w64 b)) → s ≡ signum (a *ℤ b)
+sign-held a b s f g e = simp toZ-ofZ at e
+
 pub returns-then-left-right : need.returns-then-left-right
 returns-then-left-right c =
-    let fa : SFits w64 (c .args .a) = c .fits .a in
-    let fb : SFits w64 (c .args .b) = c .fits .b in
-    let fc : SFits w64 (c .args .c) = c .fits .c in
-    let fe : SFits w64 (c .args .e) = c .fits .e in
-    let l = simp toZ-ofZ at (c .product-sign-left .ensures) in
-    let r = simp toZ-ofZ at (c .product-sign-right .ensures) in
+    let l = sign-held _ _ _ (c .fits .a) (c .fits .b) (c .product-sign-left .ensures) in
+    let r = sign-held _ _ _ (c .fits .c) (c .fits .e) (c .product-sign-right .ensures) in
     record {
       turn = left-turn ((c .args .a *ℤ c .args .b) -ℤ (c .args .c *ℤ c .args .e)) (above (c .args .a *ℤ c .args .b) (c .args .c *ℤ c .args .e) (omega (arith, ints)));
-      bounded = within-61-bits (c .args .a) (c .args .b) (c .args .c) (c .args .e) (c .pre .0) (c .pre .1) (c .pre .2) (c .pre .3);
+      bounded = within-61-bits (c .args .a) (c .args .b) (c .args .c) (c .args .e) (c .pre);
     }
 
 pub returns-then-left-right-2 : need.returns-then-left-right-2
 returns-then-left-right-2 c =
-    let fa : SFits w64 (c .args .a) = c .fits .a in
-    let fb : SFits w64 (c .args .b) = c .fits .b in
-    let fc : SFits w64 (c .args .c) = c .fits .c in
-    let fe : SFits w64 (c .args .e) = c .fits .e in
-    let l = simp toZ-ofZ at (c .product-sign-left .ensures) in
-    let r = simp toZ-ofZ at (c .product-sign-right .ensures) in
+    let l = sign-held _ _ _ (c .fits .a) (c .fits .b) (c .product-sign-left .ensures) in
+    let r = sign-held _ _ _ (c .fits .c) (c .fits .e) (c .product-sign-right .ensures) in
     record {
       turn = right-turn ((c .args .a *ℤ c .args .b) -ℤ (c .args .c *ℤ c .args .e)) (under (c .args .a *ℤ c .args .b) (c .args .c *ℤ c .args .e) (omega (arith, ints)));
-      bounded = within-61-bits (c .args .a) (c .args .b) (c .args .c) (c .args .e) (c .pre .0) (c .pre .1) (c .pre .2) (c .pre .3);
+      bounded = within-61-bits (c .args .a) (c .args .b) (c .args .c) (c .args .e) (c .pre);
     }
 
 pub returns-then-left-eq0 : need.returns-then-left-eq0
 returns-then-left-eq0 c =
-    let fa : SFits w64 (c .args .a) = c .fits .a in
-    let fb : SFits w64 (c .args .b) = c .fits .b in
-    let fc : SFits w64 (c .args .c) = c .fits .c in
-    let fe : SFits w64 (c .args .e) = c .fits .e in
-    let l = simp toZ-ofZ at (c .product-sign-left .ensures) in
-    let r = simp toZ-ofZ at (c .product-sign-right .ensures) in
+    let l = sign-held _ _ _ (c .fits .a) (c .fits .b) (c .product-sign-left .ensures) in
+    let r = sign-held _ _ _ (c .fits .c) (c .fits .e) (c .product-sign-right .ensures) in
     record {
-      turn = no-turn ((c .args .a *ℤ c .args .b) -ℤ (c .args .c *ℤ c .args .e))
-          (omega (arith, ints, no-sign (c .args .a *ℤ c .args .b) (omega (arith, ints)), no-sign (c .args .c *ℤ c .args .e) (omega (arith, ints))));
-      bounded = within-61-bits (c .args .a) (c .args .b) (c .args .c) (c .args .e) (c .pre .0) (c .pre .1) (c .pre .2) (c .pre .3);
+      turn = no-turn ((c .args .a *ℤ c .args .b) -ℤ (c .args .c *ℤ c .args .e)) (omega (arith, ints, no-sign (c .args .a *ℤ c .args .b) (omega (arith, ints)), no-sign (c .args .c *ℤ c .args .e) (omega (arith, ints))));
+      bounded = within-61-bits (c .args .a) (c .args .b) (c .args .c) (c .args .e) (c .pre);
     }

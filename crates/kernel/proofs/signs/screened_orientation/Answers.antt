@@ -1,4 +1,4 @@
-use mathlib.Core.Path.{_≡_, _∙_, ap, subst}
+use mathlib.Core.Path.{_∙_, ap, subst}
 use lib.IntN.{ℤ}
 use Rattle.plane.specs.Orient.{orientation, Within61Bits}
 use Rattle.kernel.proofs.Products.{cross-held}

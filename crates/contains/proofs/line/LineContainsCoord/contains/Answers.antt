@@ -1,11 +1,6 @@
-use mathlib.Core.Path.{_≡_, ap}
+use mathlib.Core.Path.{ap}
 use mathlib.Core.Logic.{inl, inr}
-use mathlib.Core.Bool.{Bool, false}
-use Rattle.plane.specs.declared.grid_point.GridPoint.{GridPoint}
-use Rattle.plane.specs.Points.{Segment, On}
-use Rattle.plane.specs.Reflects.{Reflects}
-use Rattle.plane.specs.Sets.{Common, At, Interior}
-use Rattle.plane.proofs.Answers.{reflects-same}
+use mathlib.Core.Bool.{false}
 use Rattle.plane.proofs.Containment.{coord-reflects, zero-reflects, longer-reflects, end-not-interior}
 use Rattle.scalar.specs.Coords.{grid-point}
 use Rattle.scalar.proofs.CoordLaws.{same-coord, same-grid}

@@ -1,11 +1,11 @@
 use mathlib.Core.Path.{_≡_, ap}
 use mathlib.Core.Logic.{_⊎_, inl, inr}
 use mathlib.Core.Bool.{Bool, false}
-use Rattle.plane.specs.Points.{Segment, On, Touches, LongerThanZero}
+use Rattle.plane.specs.Points.{Segment, On, LongerThanZero}
 use Rattle.plane.specs.Reflects.{Reflects}
 use Rattle.plane.specs.Sets.{Common, Subset, Interior, ContainsByEnds}
 use Rattle.plane.proofs.Answers.{reflects-same}
-use Rattle.plane.proofs.Containment.{ends-contain, contain-ends}
+use Rattle.plane.proofs.Containment.{ends-contain, contain-ends, ends-are-points}
 use Rattle.scalar.specs.Coords.{grid-point}
 use Rattle.scalar.proofs.CoordLaws.{same-coord}
 use Rattle.geometry.specs.Shapes.{segment}
@@ -23,7 +23,7 @@ returns-then-eq g c =
     let r = c .contains .result in
     let z : t .p ≡ t .q = ap (grid-point u) (c .if-eq .ensures tt) in
     let h : Reflects r (ContainsByEnds s t) = reflects-same r (λ i. record { point = λ _. i; longer = λ n. absurd (n z) }) (λ e. e .point z) (c .contains .ensures .rule) in
-    record { points = by-points r s t (inl z) h; rule = h }
+    record { points = by-points r s t (inl z) h; rule = h; ends = ends-are-points s t }
 
 pub returns-then-not-intersects : need.returns-then-not-intersects
 returns-then-not-intersects g c =
@@ -32,7 +32,7 @@ returns-then-not-intersects g c =
     let t = segment u (c .args .line .now) in
     let n : LongerThanZero t = λ e. c .if-eq .ensures tt (same-coord u (g .T·CoordNum·met .«equal_units») _ _ e) in
     let h : Reflects false (ContainsByEnds s t) = λ e. c .if-not-intersects .ensures tt .touches (e .longer n .0) in
-    record { points = by-points false s t (inr n) h; rule = h }
+    record { points = by-points false s t (inr n) h; rule = h; ends = ends-are-points s t }
 
 pub returns : need.returns
 returns g c =
@@ -43,4 +43,4 @@ returns g c =
     let n : LongerThanZero t = λ e. c .if-eq .ensures tt (same-coord u (g .T·CoordNum·met .«equal_units») _ _ e) in
     let h : Reflects r (ContainsByEnds s t) =
     reflects-same r (λ m. record { point = λ z. absurd (n z); longer = λ _. (c .if-not-intersects .ensures tt .touches, m) }) (λ e. e .longer n .1) (c .intersects-2 .ensures .touches) in
-    record { points = by-points r s t (inr n) h; rule = h }
+    record { points = by-points r s t (inr n) h; rule = h; ends = ends-are-points s t }

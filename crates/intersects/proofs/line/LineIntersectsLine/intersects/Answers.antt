@@ -1,4 +1,4 @@
-use mathlib.Core.Path.{_≡_, sym, ap, _∙_}
+use mathlib.Core.Path.{sym, ap, _∙_}
 use Rattle.scalar.specs.Coords.{grid-point}
 use Rattle.geometry.specs.Shapes.{segment}
 use Rattle.plane.proofs.Answers.{reflects-same, ne-reflects, ne-left}

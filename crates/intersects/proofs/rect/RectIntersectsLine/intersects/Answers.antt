@@ -7,7 +7,6 @@ use Rattle.plane.specs.Sets.{Box, Common, InBox}
 use Rattle.plane.proofs.Answers.{reflects-same, eq-reflects, ne-reflects, ne-left}
 use Rattle.plane.proofs.Orientations.{turn}
 use Rattle.plane.proofs.Rectangles.{far, low-right, high-left, low-right-apart, high-right-apart, high-left-apart, corners-reflect}
-use Rattle.scalar.specs.Coords.{grid-point}
 use Rattle.geometry.specs.Shapes.{segment}
 use Rattle.geometry.specs.Rects.{box}
 use Rattle.geometry.proofs.RectLaws.{box-ordered}

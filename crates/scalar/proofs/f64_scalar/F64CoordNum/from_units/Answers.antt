@@ -1,6 +1,6 @@
 use mathlib.Core.Path.{_≡_, sym, subst, ap, _∙_}
 use lib.Dec.{T}
-use lib.Ieee.{Float, div, binary64, ofInt, ofBits}
+use lib.Ieee.{Float, div, binary64, ofInt}
 use lib.Ieee.Fits.{div-fits}
 use mir.Syntax.{w32}
 use mir.Val.{SFits, toZ, ofZ}

@@ -1,11 +1,11 @@
-use mathlib.Core.Path.{_≡_, sym, subst, ap, _∙_}
+use mathlib.Core.Path.{sym, subst, ap, _∙_}
 use lib.Dec.{T}
 use lib.Ieee.{Float, mul, binary64, inSigned, toSigned, ofBits}
 use lib.Ieee.Casts.{toSigned-in}
 use mir.Syntax.{w32}
 use Rattle.std.proofs.shelf.Signed.{toZ-ofZ}
 use Rattle.millimetre.specs.Millimetres.{units-of}
-use Rattle.millimetre.proofs.Exact.{k256, k256-is, cast-is, on-grid-means}
+use Rattle.millimetre.proofs.Exact.{k256-is, cast-is, on-grid-means}
 use Rattle.scalar.proofs.f64_scalar.F64CoordNum.to_units.Needs as need
 
 pub float-to-int-result : need.float-to-int-result
