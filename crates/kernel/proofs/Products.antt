@@ -8,7 +8,7 @@ use mathlib.Core.Path.{_≡_, sym, _∙_, subst}
 use mir.Syntax.{w32, w64}
 use mir.Val.{SFits, toZ, ofZ}
 use Rattle.std.proofs.shelf.Signed.{ints, toZ-ofZ}
-use Rattle.plane.specs.Orient.{Within61Bits}
+use Rattle.plane.specs.Orient.{AtMostTwoTo61}
 use Rattle.kernel.specs.Signs.{Difference}
 
 product : (m n : ℕ) → m ≤ 1073741824 → n ≤ 1073741824 → m * n ≤ 1152921504606846976
@@ -22,16 +22,16 @@ product-within (negsuc m) (pos n) h k = (omega (arith, ints, product (suc m) n (
 product-within (negsuc m) (negsuc n) h k = (omega (arith, ints), omega (arith, ints, product (suc m) (suc n) (omega (arith, ints)) (omega (arith, ints))))
 
 -- the difference of two such products
-near : (z w : ℤ) → (negsuc 1152921504606846975 ≤ℤ z) × (z ≤ℤ pos 1152921504606846976) → (negsuc 1152921504606846975 ≤ℤ w) × (w ≤ℤ pos 1152921504606846976) → Within61Bits (z -ℤ w)
+near : (z w : ℤ) → (negsuc 1152921504606846975 ≤ℤ z) × (z ≤ℤ pos 1152921504606846976) → (negsuc 1152921504606846975 ≤ℤ w) × (w ≤ℤ pos 1152921504606846976) → AtMostTwoTo61 (z -ℤ w)
 near z w h k = (omega (arith, ints), omega (arith, ints))
 
-pub within-61-bits : (a b c e : ℤ) → Difference a × Difference b × Difference c × Difference e → Within61Bits ((a *ℤ b) -ℤ (c *ℤ e))
-within-61-bits a b c e h = near (a *ℤ b) (c *ℤ e) (product-within a b (h .0) (h .1)) (product-within c e (h .2) (h .3))
+pub at-most-two-to-61 : (a b c e : ℤ) → Difference a × Difference b × Difference c × Difference e → AtMostTwoTo61 ((a *ℤ b) -ℤ (c *ℤ e))
+at-most-two-to-61 a b c e h = near (a *ℤ b) (c *ℤ e) (product-within a b (h .0) (h .1)) (product-within c e (h .2) (h .3))
 
 pub product-fits : (a b : ℤ) → Difference a → Difference b → SFits w64 (a *ℤ b)
 product-fits a b h k = omega (arith, ints, product-within a b h k)
 
-pub cross-fits : (z : ℤ) → Within61Bits z → SFits w64 z
+pub cross-fits : (z : ℤ) → AtMostTwoTo61 z → SFits w64 z
 cross-fits z h = omega (arith, ints)
 
 -- a difference as the machine passes it on

@@ -3,7 +3,7 @@ use plane::grid_point::GridPoint;
 use plane::orientation::Orientation;
 ghost use mathlib.Core.Path.{_≡_};
 ghost use lib.IntN.{_-ℤ_, _*ℤ_};
-ghost use Rattle.plane.specs.Orient.{det, orientation, Within61Bits};
+ghost use Rattle.plane.specs.Orient.{det, orientation, AtMostTwoTo61};
 ghost use Rattle.plane.specs.Reach.{Within, WithinReach};
 ghost use Rattle.kernel.specs.Signs.{Difference, signum};
 
@@ -31,7 +31,7 @@ fn difference(a: i32, b: i32) -> i64
 // a * b - c * e.
 fn cross(a: i64, b: i64, c: i64, e: i64) -> i64
     requires { ⌜ Difference a × Difference b × Difference c × Difference e ⌝ }
-    ensures { λ r. ⌜ (r ≡ (a *ℤ b) -ℤ (c *ℤ e)) × Within61Bits r ⌝ }
+    ensures { λ r. ⌜ (r ≡ (a *ℤ b) -ℤ (c *ℤ e)) × AtMostTwoTo61 r ⌝ }
 {
     a * b - c * e
 }
@@ -50,7 +50,7 @@ pub(crate) fn orientation_of(d: i64) -> Orientation
 
 pub(crate) fn determinant(p: GridPoint, q: GridPoint, r: GridPoint) -> i64
     requires { ⌜ WithinReach p × WithinReach q × WithinReach r ⌝ }
-    ensures { λ d. ⌜ (d ≡ det p q r) × Within61Bits (det p q r) ⌝ }
+    ensures { λ d. ⌜ (d ≡ det p q r) × AtMostTwoTo61 (det p q r) ⌝ }
 {
     let (a, b, c, e) = factors(p, q, r);
     cross(a, b, c, e)
@@ -86,7 +86,7 @@ fn product_sign(a: i64, b: i64) -> i8
 fn screened(a: i64, b: i64, c: i64, e: i64) -> Orientation
     requires { ⌜ Difference a × Difference b × Difference c × Difference e ⌝ }
     ensures turn { λ o. ⌜ o ≡ orientation ((a *ℤ b) -ℤ (c *ℤ e)) ⌝ }
-    ensures bounded { λ _. ⌜ Within61Bits ((a *ℤ b) -ℤ (c *ℤ e)) ⌝ }
+    ensures bounded { λ _. ⌜ AtMostTwoTo61 ((a *ℤ b) -ℤ (c *ℤ e)) ⌝ }
 {
     let left = product_sign(a, b);
     let right = product_sign(c, e);
@@ -104,7 +104,7 @@ fn screened(a: i64, b: i64, c: i64, e: i64) -> Orientation
 pub(crate) fn screened_orientation(p: GridPoint, q: GridPoint, r: GridPoint) -> Orientation
     requires { ⌜ WithinReach p × WithinReach q × WithinReach r ⌝ }
     ensures turn { λ o. ⌜ o ≡ orientation (det p q r) ⌝ }
-    ensures bounded { λ _. ⌜ Within61Bits (det p q r) ⌝ }
+    ensures bounded { λ _. ⌜ AtMostTwoTo61 (det p q r) ⌝ }
 {
     let (a, b, c, e) = factors(p, q, r);
     screened(a, b, c, e)

@@ -17,7 +17,11 @@ use scalar::f64_scalar::F64Scalar;
 use scalar::fault::F64Fault;
 use scalar::i32_scalar::I32CoordNum;
 use scalar::i32_scalar::I32Scalar;
+use std::fmt;
 use std::io;
+
+// Lengths in millimetres that show the step of the grid and the end of its reach.
+const LENGTHS: [f64; 4] = [0.00390625, 0.001, 2097152.0, 2097152.00390625];
 
 // The corners of the outline as they were keyed in, in millimetres; one of them misses the grid and is keyed in again.
 const OUTLINE: [(f64, f64); 8] = [
@@ -34,13 +38,32 @@ const OUTLINE: [(f64, f64); 8] = [
 // Opposite corners of the clamp.
 const CLAMP: [(f64, f64); 2] = [(90.0, -5.0), (70.25, 12.5)];
 
-// Prints why a corner is refused, with the refusal's number and the float that it carries.
-fn print_refusal(rt: &LibcRuntime, x: f64, y: f64, fault: F64Fault) -> io::Result<()> {
-    print!(rt, "  ({x}, {y}) mm is refused with {}: ", fault.number())?;
+// A coordinate as it is printed.
+#[derive(Drop)]
+struct Millimetres(Coord<F64Scalar>);
+
+impl fmt::Display for Millimetres as MillimetresDisplay {
+    fn fmt<W: fmt::Write>(&self, f: &mut fmt::Formatter<W>) -> fmt::Result {
+        write!(f, "({}, {})", self.0.x.raw(), self.0.y.raw())
+    }
+}
+
+// Prints a refusal with its number and the float that it carries.
+fn print_refusal(rt: &LibcRuntime, fault: F64Fault) -> io::Result<()> {
+    print!(rt, " refused with {}: ", fault.number())?;
     match fault {
         F64Fault::NotANumber => println!(rt, "not a number"),
         F64Fault::BeyondReach(value) => println!(rt, "{value} mm is beyond reach"),
         F64Fault::OffGrid(value) => println!(rt, "{value} mm is off the grid"),
+    }
+}
+
+// Prints what a number of millimetres means.
+fn print_length(rt: &LibcRuntime, x: f64) -> io::Result<()> {
+    print!(rt, "  {x} mm is")?;
+    match F64Scalar::new(x) {
+        Ok(s) => println!(rt, " {}", s.to_units()),
+        Err(fault) => print_refusal(rt, fault),
     }
 }
 
@@ -52,7 +75,10 @@ fn take_corner(rt: &LibcRuntime, x: f64, y: f64, corners: &mut Vec<GridPoint>) -
             corners.push(p)?;
             println!(rt, "  ({x}, {y}) mm lies at ({}, {}) units", p.x, p.y)
         }
-        Err(fault) => print_refusal(rt, x, y, fault),
+        Err(fault) => {
+            print!(rt, "  ({x}, {y}) mm is")?;
+            print_refusal(rt, fault)
+        }
     }
 }
 
@@ -82,7 +108,7 @@ fn clamp<T: CoordNum>(corners: &[GridPoint]) -> Option<Rect<T>> {
 fn edges_met<T: GeoNum>(corners: &[GridPoint], clamp: &Rect<T>) -> usize {
     let mut met = 0;
     for ends in corners.windows(2) {
-        if RectIntersectsLine::intersects(clamp, &edge::<T>(ends[0], ends[1])) {
+        if clamp.intersects(&edge::<T>(ends[0], ends[1])) {
             met += 1;
         }
     }
@@ -92,20 +118,13 @@ fn edges_met<T: GeoNum>(corners: &[GridPoint], clamp: &Rect<T>) -> usize {
 fn print_edges(rt: &LibcRuntime, corners: &[GridPoint], clamp: &Rect<F64Scalar>) -> io::Result<()> {
     for ends in corners.windows(2) {
         let line = edge::<F64Scalar>(ends[0], ends[1]);
-        let verdict = if RectIntersectsLine::intersects(clamp, &line) {
+        let verdict = if clamp.intersects(&line) {
             "meets the clamp"
         } else {
             "is clear of the clamp"
         };
-        let (start, end) = (line.start, line.end);
-        println!(
-            rt,
-            "  ({}, {}) to ({}, {}) mm {verdict}",
-            start.x.raw(),
-            start.y.raw(),
-            end.x.raw(),
-            end.y.raw()
-        )?;
+        let (start, end) = (Millimetres(line.start), Millimetres(line.end));
+        println!(rt, "  {start} to {end} mm {verdict}")?;
     }
     Ok(())
 }
@@ -117,33 +136,26 @@ fn print_corners(
 ) -> io::Result<()> {
     for p in corners {
         let c = Coord::<F64Scalar>::from_grid(*p);
-        if RectContainsCoord::contains(clamp, &c) {
-            println!(
-                rt,
-                "  ({}, {}) mm lies strictly within the clamp",
-                c.x.raw(),
-                c.y.raw()
-            )?;
+        if clamp.contains(&c) {
+            let c = Millimetres(c);
+            println!(rt, "  {c} mm lies strictly within the clamp")?;
         }
     }
     Ok(())
 }
 
 fn print_clamp(rt: &LibcRuntime, clamp: &Rect<F64Scalar>) -> io::Result<()> {
-    let (min, max) = (clamp.min(), clamp.max());
-    println!(
-        rt,
-        "The clamp lies from ({}, {}) to ({}, {}) mm",
-        min.x.raw(),
-        min.y.raw(),
-        max.x.raw(),
-        max.y.raw()
-    )
+    let (min, max) = (Millimetres(clamp.min()), Millimetres(clamp.max()));
+    println!(rt, "The clamp lies from {min} to {max} mm")
 }
 
 fn main(rt: LibcRuntime) -> io::Result<()> {
     let mut outline = Vec::new(rt.alloc());
     let mut clamped = Vec::new(rt.alloc());
+    println!(rt, "The grid, in units of 1/256 mm:")?;
+    for x in LENGTHS {
+        print_length(&rt, x)?;
+    }
     println!(rt, "Outline of the blank, as keyed in:")?;
     take_corners(&rt, &OUTLINE, &mut outline)?;
     println!(rt, "Corners of the clamp, as keyed in:")?;

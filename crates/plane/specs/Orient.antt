@@ -17,5 +17,5 @@ orientation (pos (suc n)) = CounterClockwise
 orientation (negsuc n) = Clockwise
 
 -- z is at most 2 ^ 61 in size
-abbrev pub Within61Bits : ℤ → Type 0
-Within61Bits z = (negsuc 2305843009213693951 ≤ℤ z) × (z ≤ℤ pos 2305843009213693952)
+abbrev pub AtMostTwoTo61 : ℤ → Type 0
+AtMostTwoTo61 z = (negsuc 2305843009213693951 ≤ℤ z) × (z ≤ℤ pos 2305843009213693952)

@@ -4,7 +4,7 @@ use mir.Syntax.{w64}
 use mir.Val.{SFits}
 use borrow.Author.Needs.{needs}
 use Rattle.std.proofs.shelf.Signed.{toZ-ofZ}
-use Rattle.plane.specs.Orient.{det, Within61Bits}
+use Rattle.plane.specs.Orient.{det, AtMostTwoTo61}
 use Rattle.kernel.proofs.Products.{cross-held}
 use Rattle.kernel.proofs.signs.determinant.Needs as need
 
@@ -12,4 +12,4 @@ pub returns : need.returns
 returns c =
     let is : c .cross .result ≡ det (c .args .p) (c .args .q) (c .args .r) = c .cross .ensures .0 ∙ cross-held _ _ _ _ _ _ _ _ (c .factors-a .ensures .value) (c .factors-a .ensures .bounded) in
     let f : SFits w64 (c .cross .result) = search needs in
-    (toZ-ofZ w64 (c .cross .result) f ∙ is, subst (λ (z : ℤ). Within61Bits z) is (c .cross .ensures .1))
+    (toZ-ofZ w64 (c .cross .result) f ∙ is, subst (λ (z : ℤ). AtMostTwoTo61 z) is (c .cross .ensures .1))

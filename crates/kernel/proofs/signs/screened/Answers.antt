@@ -6,7 +6,7 @@ use mir.Val.{SFits, toZ, ofZ}
 use Rattle.std.proofs.shelf.Signed.{ints, toZ-ofZ}
 use Rattle.plane.proofs.Orientations.{left-turn, right-turn, no-turn}
 use Rattle.kernel.specs.Signs.{signum}
-use Rattle.kernel.proofs.Products.{within-61-bits}
+use Rattle.kernel.proofs.Products.{at-most-two-to-61}
 use Rattle.kernel.proofs.SignLaws.{above, under, no-sign}
 use Rattle.kernel.proofs.signs.screened.Needs as need
 
@@ -20,7 +20,7 @@ returns-then-left-right c =
     let r = sign-held _ _ _ (c .fits .c) (c .fits .e) (c .product-sign-right .ensures) in
     record {
       turn = left-turn ((c .args .a *ℤ c .args .b) -ℤ (c .args .c *ℤ c .args .e)) (above (c .args .a *ℤ c .args .b) (c .args .c *ℤ c .args .e) (omega (arith, ints)));
-      bounded = within-61-bits (c .args .a) (c .args .b) (c .args .c) (c .args .e) (c .pre);
+      bounded = at-most-two-to-61 (c .args .a) (c .args .b) (c .args .c) (c .args .e) (c .pre);
     }
 
 pub returns-then-left-right-2 : need.returns-then-left-right-2
@@ -29,7 +29,7 @@ returns-then-left-right-2 c =
     let r = sign-held _ _ _ (c .fits .c) (c .fits .e) (c .product-sign-right .ensures) in
     record {
       turn = right-turn ((c .args .a *ℤ c .args .b) -ℤ (c .args .c *ℤ c .args .e)) (under (c .args .a *ℤ c .args .b) (c .args .c *ℤ c .args .e) (omega (arith, ints)));
-      bounded = within-61-bits (c .args .a) (c .args .b) (c .args .c) (c .args .e) (c .pre);
+      bounded = at-most-two-to-61 (c .args .a) (c .args .b) (c .args .c) (c .args .e) (c .pre);
     }
 
 pub returns-then-left-eq0 : need.returns-then-left-eq0
@@ -38,5 +38,5 @@ returns-then-left-eq0 c =
     let r = sign-held _ _ _ (c .fits .c) (c .fits .e) (c .product-sign-right .ensures) in
     record {
       turn = no-turn ((c .args .a *ℤ c .args .b) -ℤ (c .args .c *ℤ c .args .e)) (omega (arith, ints, no-sign (c .args .a *ℤ c .args .b) (omega (arith, ints)), no-sign (c .args .c *ℤ c .args .e) (omega (arith, ints))));
-      bounded = within-61-bits (c .args .a) (c .args .b) (c .args .c) (c .args .e) (c .pre);
+      bounded = at-most-two-to-61 (c .args .a) (c .args .b) (c .args .c) (c .args .e) (c .pre);
     }
