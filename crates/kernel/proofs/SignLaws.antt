@@ -2,7 +2,7 @@
 use Prim.Native.Nat.{zero, suc, _*_}
 use native.Mathlib.Nat.{mul-pos, zero-lt-suc}
 use native.Mathlib.Omega.{arith}
-use lib.IntN.{ℤ, pos, negsuc, negℤ, _*ℤ_, _-ℤ_}
+use lib.IntN.{ℤ, pos, negsuc, _*ℤ_, _-ℤ_}
 use lib.Signed.{_<ℤ_}
 use mathlib.Core.Path.{_≡_, refl, ap}
 use Rattle.std.proofs.shelf.Signed.{ints}
@@ -26,12 +26,6 @@ times-up (pos m) (pos zero) h = sign-none (pos m *ℤ pos 0) (omega (arith, ints
 times-up (pos m) (pos (suc n)) h = sign-up (pos m *ℤ pos (suc n)) (omega (arith, ints, mul-pos {m = m} {n = suc n} (omega (arith, ints)) (zero-lt-suc n)))
 times-up (pos m) (negsuc n) h = sign-down (pos m *ℤ negsuc n) (omega (arith, ints, mul-pos {m = m} {n = suc n} (omega (arith, ints)) (zero-lt-suc n)))
 times-up (negsuc m) b h = absurd (omega (arith, ints))
-
-pub times-down : (a b : ℤ) → a <ℤ pos 0 → signum (a *ℤ b) ≡ negℤ (signum b)
-times-down (pos m) b h = absurd (omega (arith, ints))
-times-down (negsuc m) (pos zero) h = sign-none (negsuc m *ℤ pos 0) (omega (arith, ints))
-times-down (negsuc m) (pos (suc n)) h = sign-down (negsuc m *ℤ pos (suc n)) (omega (arith, ints, mul-pos {m = suc m} {n = suc n} (zero-lt-suc m) (zero-lt-suc n)))
-times-down (negsuc m) (negsuc n) h = sign-up (negsuc m *ℤ negsuc n) (omega (arith, ints, mul-pos {m = suc m} {n = suc n} (zero-lt-suc m) (zero-lt-suc n)))
 
 -- where the signs differ, so do the numbers
 pub above : (x y : ℤ) → signum y <ℤ signum x → pos 0 <ℤ (x -ℤ y)

@@ -12,10 +12,10 @@ use Rattle.plane.specs.Reflects.{Reflects, Iff}
 use Rattle.plane.specs.Points.{Segment, On, Between, Touches, LongerThanZero}
 use Rattle.plane.specs.Sets.{Common, Subset, At, Interior, ContainsByEnds, Box, InBox, StrictlyInBox, WithinBounds}
 use Rattle.plane.proofs.Terms.{Ordered, Into}
-use Rattle.plane.proofs.Integers.{ring, lin, le-mul, cancel-eq, *ℤ-one-pos}
+use Rattle.plane.proofs.Integers.{ring, lin, le-mul, cancel-eq, one-mul}
 use Rattle.plane.proofs.Answers.{reflects-same}
 use Rattle.plane.proofs.Division.{part, on-at}
-use Rattle.plane.proofs.Boxes.{below, inside-yes, inside-no, into-yes, into-no}
+use Rattle.plane.proofs.Boxes.{cancel-denominator-lt, bounds-subset, subset-bounds, into-common, common-into}
 use Rattle.plane.proofs.Collinear.{same-point, start-on, end-on}
 use Rattle.plane.proofs.Segments.{at-self, common-touch}
 
@@ -26,13 +26,13 @@ pub scaled : (s : Segment) (c : GridPoint) (X Y : ℤ) (d : ℕ) → Touches s c
 scaled s c X Y d h a = subst₂ (λ (u v : ℤ). On s u v d) (sym (a .at-x)) (sym (a .at-y)) up
   where
     stretch : (a b v : ℤ) → Between v (pos 1 *ℤ a) (pos 1 *ℤ b) → Between (pos d *ℤ v) (pos d *ℤ a) (pos d *ℤ b)
-    stretch a b v k = elim (simp *ℤ-one-pos at k) [
+    stretch a b v k = elim (simp one-mul at k) [
       | inl h ↦ inl (le-mul (pos d) a v (omega (arith, ints)) (h .0), le-mul (pos d) v b (omega (arith, ints)) (h .1))
       | inr h ↦ inr (le-mul (pos d) b v (omega (arith, ints)) (h .0), le-mul (pos d) v a (omega (arith, ints)) (h .1))
     ]
 
     slope : (dx dy px py x y d : ℤ) → dx *ℤ (y -ℤ pos 1 *ℤ py) ≡ dy *ℤ (x -ℤ pos 1 *ℤ px) → dx *ℤ (d *ℤ y -ℤ d *ℤ py) ≡ dy *ℤ (d *ℤ x -ℤ d *ℤ px)
-    slope dx dy px py x y d e = simp ring (omega (arith, lin, simp ring at (ap (λ (z : ℤ). d *ℤ z) (simp *ℤ-one-pos at e))))
+    slope dx dy px py x y d e = simp ring (omega (arith, lin, simp ring at (ap (λ (z : ℤ). d *ℤ z) (simp one-mul at e))))
 
     up : On s (pos d *ℤ c .x) (pos d *ℤ c .y) d
     up = record {
@@ -44,8 +44,8 @@ scaled s c X Y d h a = subst₂ (λ (u v : ℤ). On s u v d) (sym (a .at-x)) (sy
 -- an end that a grid point is, at any denominator
 same-end : (c e : GridPoint) (X Y : ℤ) (d : ℕ) → At c X Y d → At e (c .x) (c .y) 1 → At e X Y d
 same-end c e X Y d a b =
-    let x : c .x ≡ e .x = simp *ℤ-one-pos at (b .at-x) in
-    let y : c .y ≡ e .y = simp *ℤ-one-pos at (b .at-y) in
+    let x : c .x ≡ e .x = simp one-mul at (b .at-x) in
+    let y : c .y ≡ e .y = simp one-mul at (b .at-y) in
     record { at-x = a .at-x ∙ ap (λ (z : ℤ). pos d *ℤ z) x; at-y = a .at-y ∙ ap (λ (z : ℤ). pos d *ℤ z) y }
 
 coord-interior : (s : Segment) (c : GridPoint) → Common (At c) (Interior s) → Interior s (c .x) (c .y) 1
@@ -63,10 +63,10 @@ coord-reflects r s c h =
     h
 
 at-is : (c e : GridPoint) → At e (c .x) (c .y) 1 → c ≡ e
-at-is c e a = same-point c e (simp *ℤ-one-pos at (a .at-x)) (simp *ℤ-one-pos at (a .at-y))
+at-is c e a = same-point c e (simp one-mul at (a .at-x)) (simp one-mul at (a .at-y))
 
 narrow : (v a b : ℤ) → a ≡ b → Between v (pos 1 *ℤ a) (pos 1 *ℤ b) → v ≡ a
-narrow v a b e k = let h : Between v a b = simp *ℤ-one-pos at k in omega (arith, lin, h)
+narrow v a b e k = let h : Between v a b = simp one-mul at k in omega (arith, lin, h)
 
 -- of a segment of length zero, its grid point
 pub zero-reflects : (r : Bool) (s : Segment) (c : GridPoint) → s .p ≡ s .q → Reflects r (s .p ≡ c) → Reflects r (Interior s (c .x) (c .y) 1)
@@ -108,9 +108,9 @@ convex s t h k X Y d n o =
     let c = part t X Y d o in
     let z : pos 0 ≤ℤ pos d = omega (arith, ints) in
     record {
-      line = cancel-eq (c .e) _ _ (c .positive) (slope-between (s .q .x -ℤ s .p .x) (s .q .y -ℤ s .p .y) (s .p .x) (s .p .y) (t .p .x) (t .p .y) (t .q .x) (t .q .y) X Y (pos d) (c .e) (c .k) (simp *ℤ-one-pos at (h .line)) (simp *ℤ-one-pos at (k .line)) (c .is-x) (c .is-y));
-      in-x = nested (pos d) (s .p .x) (s .q .x) (t .p .x) (t .q .x) X z (simp *ℤ-one-pos at (h .in-x)) (simp *ℤ-one-pos at (k .in-x)) (o .in-x);
-      in-y = nested (pos d) (s .p .y) (s .q .y) (t .p .y) (t .q .y) Y z (simp *ℤ-one-pos at (h .in-y)) (simp *ℤ-one-pos at (k .in-y)) (o .in-y);
+      line = cancel-eq (c .e) _ _ (c .positive) (slope-between (s .q .x -ℤ s .p .x) (s .q .y -ℤ s .p .y) (s .p .x) (s .p .y) (t .p .x) (t .p .y) (t .q .x) (t .q .y) X Y (pos d) (c .e) (c .k) (simp one-mul at (h .line)) (simp one-mul at (k .line)) (c .is-x) (c .is-y));
+      in-x = nested (pos d) (s .p .x) (s .q .x) (t .p .x) (t .q .x) X z (simp one-mul at (h .in-x)) (simp one-mul at (k .in-x)) (o .in-x);
+      in-y = nested (pos d) (s .p .y) (s .q .y) (t .p .y) (t .q .y) Y z (simp one-mul at (h .in-y)) (simp one-mul at (k .in-y)) (o .in-y);
     }
 
 -- Both ends touch exactly if every point does.
@@ -134,10 +134,10 @@ middle-interior : (s t : Segment) → LongerThanZero t → Touches s (t .p) → 
 middle-interior s t n h k = record { on = convex s t h k _ _ 2 (omega arith) (middle-on t); no-end = λ e. absurd (n (same-point (t .p) (t .q) (x e) (y e))) }
   where
     x : At (s .p) (t .p .x +ℤ t .q .x) (t .p .y +ℤ t .q .y) 2 ⊎ At (s .q) (t .p .x +ℤ t .q .x) (t .p .y +ℤ t .q .y) 2 → t .p .x ≡ t .q .x
-    x e = squeezed (s .p .x) (s .q .x) (t .p .x) (t .q .x) (simp *ℤ-one-pos at (h .in-x)) (simp *ℤ-one-pos at (k .in-x)) (elim e [ inl a ↦ inl (a .at-x) | inr a ↦ inr (a .at-x) ])
+    x e = squeezed (s .p .x) (s .q .x) (t .p .x) (t .q .x) (simp one-mul at (h .in-x)) (simp one-mul at (k .in-x)) (elim e [ inl a ↦ inl (a .at-x) | inr a ↦ inr (a .at-x) ])
 
     y : At (s .p) (t .p .x +ℤ t .q .x) (t .p .y +ℤ t .q .y) 2 ⊎ At (s .q) (t .p .x +ℤ t .q .x) (t .p .y +ℤ t .q .y) 2 → t .p .y ≡ t .q .y
-    y e = squeezed (s .p .y) (s .q .y) (t .p .y) (t .q .y) (simp *ℤ-one-pos at (h .in-y)) (simp *ℤ-one-pos at (k .in-y)) (elim e [ inl a ↦ inl (a .at-y) | inr a ↦ inr (a .at-y) ])
+    y e = squeezed (s .p .y) (s .q .y) (t .p .y) (t .q .y) (simp one-mul at (h .in-y)) (simp one-mul at (k .in-y)) (elim e [ inl a ↦ inl (a .at-y) | inr a ↦ inr (a .at-y) ])
 
 -- the points of a segment of length zero are those of its grid point
 zero-at : (t : Segment) → t .p ≡ t .q → (X Y : ℤ) (d : ℕ) → On t X Y d → At (t .p) X Y d
@@ -171,20 +171,20 @@ box-coord-contains b r c h =
     reflects-same b
     (λ k. (inside k, record { X = c .x; Y = c .y; d = 1; positive = omega arith; first = at-self c; second = k }))
     (λ e. let m = e .1 in record {
-      left = simp *ℤ-one-pos (below (m .d) (r .min .x) (c .x) (m .positive) (omega (arith, lin, m .second .left, m .first .at-x)));
-      right = simp *ℤ-one-pos (below (m .d) (c .x) (r .max .x) (m .positive) (omega (arith, lin, m .second .right, m .first .at-x)));
-      under = simp *ℤ-one-pos (below (m .d) (r .min .y) (c .y) (m .positive) (omega (arith, lin, m .second .under, m .first .at-y)));
-      over = simp *ℤ-one-pos (below (m .d) (c .y) (r .max .y) (m .positive) (omega (arith, lin, m .second .over, m .first .at-y)));
+      left = simp one-mul (cancel-denominator-lt (m .d) (r .min .x) (c .x) (m .positive) (omega (arith, lin, m .second .left, m .first .at-x)));
+      right = simp one-mul (cancel-denominator-lt (m .d) (c .x) (r .max .x) (m .positive) (omega (arith, lin, m .second .right, m .first .at-x)));
+      under = simp one-mul (cancel-denominator-lt (m .d) (r .min .y) (c .y) (m .positive) (omega (arith, lin, m .second .under, m .first .at-y)));
+      over = simp one-mul (cancel-denominator-lt (m .d) (c .y) (r .max .y) (m .positive) (omega (arith, lin, m .second .over, m .first .at-y)));
     })
     h
   where
     inside : StrictlyInBox r (c .x) (c .y) 1 → Subset (At c) (InBox r)
     inside k X Y d o i =
         let z : pos 0 ≤ℤ pos d = omega (arith, ints) in
-        let l : r .min .x <ℤ c .x = simp *ℤ-one-pos at (k .left) in
-        let m : c .x <ℤ r .max .x = simp *ℤ-one-pos at (k .right) in
-        let n : r .min .y <ℤ c .y = simp *ℤ-one-pos at (k .under) in
-        let p : c .y <ℤ r .max .y = simp *ℤ-one-pos at (k .over) in
+        let l : r .min .x <ℤ c .x = simp one-mul at (k .left) in
+        let m : c .x <ℤ r .max .x = simp one-mul at (k .right) in
+        let n : r .min .y <ℤ c .y = simp one-mul at (k .under) in
+        let p : c .y <ℤ r .max .y = simp one-mul at (k .over) in
         record {
           left = omega (arith, lin, i .at-x, le-mul (pos d) (r .min .x) (c .x) z (omega (arith, lin)));
           right = omega (arith, lin, i .at-x, le-mul (pos d) (c .x) (r .max .x) z (omega (arith, lin)));
@@ -196,17 +196,17 @@ box-coord-contains b r c h =
 pub strictly-whole : (b : Bool) (r : Box) (c : GridPoint) → Reflects b ((r .min .x <ℤ c .x) × (c .x <ℤ r .max .x) × (r .min .y <ℤ c .y) × (c .y <ℤ r .max .y)) → Reflects b (StrictlyInBox r (c .x) (c .y) 1)
 strictly-whole b r c h =
     reflects-same b
-    (λ k. record { left = simp *ℤ-one-pos (k .0); right = simp *ℤ-one-pos (k .1); under = simp *ℤ-one-pos (k .2); over = simp *ℤ-one-pos (k .3) })
-    (λ k. (simp *ℤ-one-pos at (k .left), simp *ℤ-one-pos at (k .right), simp *ℤ-one-pos at (k .under), simp *ℤ-one-pos at (k .over)))
+    (λ k. record { left = simp one-mul (k .0); right = simp one-mul (k .1); under = simp one-mul (k .2); over = simp one-mul (k .3) })
+    (λ k. (simp one-mul at (k .left), simp one-mul at (k .right), simp one-mul at (k .under), simp one-mul at (k .over)))
     h
 
 -- closed bounds within closed bounds, and a point strictly within: by comparisons
 pub bounds-reflect : (b : Bool) (r q : Box) → Ordered q → WithinBounds r q → Reflects b (Into r q) → Reflects b (WithinBounds r q × Common (InBox q) (StrictlyInBox r))
-bounds-reflect b r q u o h = reflects-same b (λ i. (o, into-yes r q u o i)) (λ c. into-no r q (c .1)) h
+bounds-reflect b r q u o h = reflects-same b (λ i. (o, into-common r q u o i)) (λ c. common-into r q (c .1)) h
 
 -- The closed bounds lie within exactly if every point does.
 pub bounds-are-points : (r q : Box) → Ordered q → Iff (WithinBounds r q) (Subset (InBox q) (InBox r))
-bounds-are-points r q u = (inside-yes r q, inside-no r q u)
+bounds-are-points r q u = (bounds-subset r q, subset-bounds r q u)
 
 pub bounds-points : (b : Bool) (r q : Box) → Ordered q → Reflects b (WithinBounds r q × Common (InBox q) (StrictlyInBox r)) → Reflects b (Subset (InBox q) (InBox r) × Common (InBox q) (StrictlyInBox r))
 bounds-points b r q u h = let i = bounds-are-points r q u in reflects-same b (λ k. (i .0 (k .0), k .1)) (λ k. (i .1 (k .0), k .1)) h

@@ -7,7 +7,7 @@ use lib.IntN.{ℤ, pos, _-ℤ_, _*ℤ_, *ℤ-comm}
 use lib.Signed.{_≤ℤ_, _<ℤ_}
 use Rattle.std.proofs.shelf.Signed.{ints, by-ltZ}
 use Rattle.plane.specs.Points.{Segment, On, Between}
-use Rattle.plane.proofs.Integers.{ring, lin, mul-up, le-mul, *ℤ-one-pos}
+use Rattle.plane.proofs.Integers.{ring, lin, mul-nonneg, le-mul, one-mul}
 
 pub record Part (s : Segment) (X Y : ℤ) (d : ℕ) : Type 0 where
   pub e : ℤ
@@ -18,12 +18,12 @@ pub record Part (s : Segment) (X Y : ℤ) (d : ℕ) : Type 0 where
   pub is-x : e *ℤ (X -ℤ pos d *ℤ s .p .x) ≡ k *ℤ (s .q .x -ℤ s .p .x)
   pub is-y : e *ℤ (Y -ℤ pos d *ℤ s .p .y) ≡ k *ℤ (s .q .y -ℤ s .p .y)
 
-pub by-sign : {P : Type 0} (a b : ℤ) → (a <ℤ b → P) → (b <ℤ a → P) → (a ≡ b → P) → P
-by-sign a b f g h = by-ltZ a b f (λ l. by-ltZ b a g (λ m. h (omega (arith, lin))))
+pub by-order : {P : Type 0} (a b : ℤ) → (a <ℤ b → P) → (b <ℤ a → P) → (a ≡ b → P) → P
+by-order a b f g h = by-ltZ a b f (λ l. by-ltZ b a g (λ m. h (omega (arith, lin))))
 
 pub part : (s : Segment) (X Y : ℤ) (d : ℕ) → On s X Y d → Part s X Y d
 part s X Y d h =
-    by-sign (s .p .x) (s .q .x)
+    by-order (s .p .x) (s .q .x)
     (λ l. let m = le-mul (pos d) (s .p .x) (s .q .x) (omega (arith, ints)) (omega (arith, lin)) in record {
       e = s .q .x -ℤ s .p .x;
       k = X -ℤ pos d *ℤ s .p .x;
@@ -42,7 +42,7 @@ part s X Y d h =
       is-x = other (s .p .x) (s .q .x) (pos d *ℤ s .p .x) X;
       is-y = across (s .p .x) (s .q .x) (s .p .y) (s .q .y) (pos d *ℤ s .p .x) (pos d *ℤ s .p .y) X Y (h .line);
     })
-    (λ c. by-sign (s .p .y) (s .q .y)
+    (λ c. by-order (s .p .y) (s .q .y)
     (λ l. let m = le-mul (pos d) (s .p .y) (s .q .y) (omega (arith, ints)) (omega (arith, lin)) in record {
       e = s .q .y -ℤ s .p .y;
       k = Y -ℤ pos d *ℤ s .p .y;
@@ -67,8 +67,8 @@ part s X Y d h =
       positive = omega (arith, ints);
       low = omega (arith, ints);
       high = omega (arith, ints);
-      is-x = simp *ℤ-one-pos (none X (pos d) (s .p .x) (s .q .x) c (h .in-x));
-      is-y = simp *ℤ-one-pos (none Y (pos d) (s .p .y) (s .q .y) f (h .in-y));
+      is-x = simp one-mul (none X (pos d) (s .p .x) (s .q .x) c (h .in-x));
+      is-y = simp one-mul (none Y (pos d) (s .p .y) (s .q .y) f (h .in-y));
     }))
   where
     other : (p q a x : ℤ) → (p -ℤ q) *ℤ (x -ℤ a) ≡ (a -ℤ x) *ℤ (q -ℤ p)
@@ -91,9 +91,9 @@ on-at s X Y d n a b e f =
     amid : (p q x : ℤ) → x -ℤ pos d *ℤ p ≡ n *ℤ (q -ℤ p) → Between x (pos d *ℤ p) (pos d *ℤ q)
     amid p q x e =
         by-ltZ q p
-        (λ l. let u = mul-up n (p -ℤ q) a (omega (arith, lin)) in
-        let v = mul-up (pos d -ℤ n) (p -ℤ q) (omega (arith, lin)) (omega (arith, lin)) in
+        (λ l. let u = mul-nonneg n (p -ℤ q) a (omega (arith, lin)) in
+        let v = mul-nonneg (pos d -ℤ n) (p -ℤ q) (omega (arith, lin)) (omega (arith, lin)) in
         inr (simp ring (omega (arith, lin, simp ring at e, simp ring at u, simp ring at v))))
-        (λ l. let u = mul-up n (q -ℤ p) a (omega (arith, lin)) in
-        let v = mul-up (pos d -ℤ n) (q -ℤ p) (omega (arith, lin)) (omega (arith, lin)) in
+        (λ l. let u = mul-nonneg n (q -ℤ p) a (omega (arith, lin)) in
+        let v = mul-nonneg (pos d -ℤ n) (q -ℤ p) (omega (arith, lin)) (omega (arith, lin)) in
         inl (simp ring (omega (arith, lin, simp ring at e, simp ring at u, simp ring at v))))

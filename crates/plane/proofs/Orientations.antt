@@ -41,38 +41,38 @@ right-of (pos zero) e = differ (cc)
 right-of (pos (suc n)) e = differ (cc)
 right-of (negsuc n) e = omega (arith, ints)
 
-pub level : (z : ℤ) → orientation z ≡ Collinear → z ≡ pos 0
-level (pos zero) e = refl
-level (pos (suc n)) e = differ (cc)
-level (negsuc n) e = differ (cc)
+pub collinear-zero : (z : ℤ) → orientation z ≡ Collinear → z ≡ pos 0
+collinear-zero (pos zero) e = refl
+collinear-zero (pos (suc n)) e = differ (cc)
+collinear-zero (negsuc n) e = differ (cc)
 
-pub left-not-level : CounterClockwise ≡ Collinear → ⊥
-left-not-level e = differ (cc)
+pub left-not-collinear : CounterClockwise ≡ Collinear → ⊥
+left-not-collinear e = differ (cc)
 
-pub right-not-level : Clockwise ≡ Collinear → ⊥
-right-not-level e = differ (cc)
+pub right-not-collinear : Clockwise ≡ Collinear → ⊥
+right-not-collinear e = differ (cc)
 
 -- two numbers of one sign with 0 between them are 0
-pub alike : (a b : ℤ) → orientation a ≡ orientation b → Between (pos 0) a b → (a ≡ pos 0) × (b ≡ pos 0)
-alike (pos zero) (pos zero) e h = (refl, refl)
-alike (pos zero) (pos (suc n)) e h = differ (cc)
-alike (pos zero) (negsuc n) e h = differ (cc)
-alike (pos (suc m)) (pos zero) e h = differ (cc)
-alike (pos (suc m)) (pos (suc n)) e h = absurd (omega (arith, ints, h))
-alike (pos (suc m)) (negsuc n) e h = differ (cc)
-alike (negsuc m) (pos zero) e h = differ (cc)
-alike (negsuc m) (pos (suc n)) e h = differ (cc)
-alike (negsuc m) (negsuc n) e h = absurd (omega (arith, ints, h))
+pub same-sign-zero : (a b : ℤ) → orientation a ≡ orientation b → Between (pos 0) a b → (a ≡ pos 0) × (b ≡ pos 0)
+same-sign-zero (pos zero) (pos zero) e h = (refl, refl)
+same-sign-zero (pos zero) (pos (suc n)) e h = differ (cc)
+same-sign-zero (pos zero) (negsuc n) e h = differ (cc)
+same-sign-zero (pos (suc m)) (pos zero) e h = differ (cc)
+same-sign-zero (pos (suc m)) (pos (suc n)) e h = absurd (omega (arith, ints, h))
+same-sign-zero (pos (suc m)) (negsuc n) e h = differ (cc)
+same-sign-zero (negsuc m) (pos zero) e h = differ (cc)
+same-sign-zero (negsuc m) (pos (suc n)) e h = differ (cc)
+same-sign-zero (negsuc m) (negsuc n) e h = absurd (omega (arith, ints, h))
 
 -- two numbers of different signs have 0 between them
-pub apart : (a b : ℤ) → (orientation a ≡ orientation b → ⊥) → Between (pos 0) a b
-apart (pos zero) (pos n) e = inl (omega (arith, ints), omega (arith, ints))
-apart (pos zero) (negsuc n) e = inr (omega (arith, ints), omega (arith, ints))
-apart (pos (suc m)) (pos zero) e = inr (omega (arith, ints), omega (arith, ints))
-apart (pos (suc m)) (pos (suc n)) e = absurd (e refl)
-apart (pos (suc m)) (negsuc n) e = inr (omega (arith, ints), omega (arith, ints))
-apart (negsuc m) (pos n) e = inl (omega (arith, ints), omega (arith, ints))
-apart (negsuc m) (negsuc n) e = absurd (e refl)
+pub signs-between : (a b : ℤ) → (orientation a ≡ orientation b → ⊥) → Between (pos 0) a b
+signs-between (pos zero) (pos n) e = inl (omega (arith, ints), omega (arith, ints))
+signs-between (pos zero) (negsuc n) e = inr (omega (arith, ints), omega (arith, ints))
+signs-between (pos (suc m)) (pos zero) e = inr (omega (arith, ints), omega (arith, ints))
+signs-between (pos (suc m)) (pos (suc n)) e = absurd (e refl)
+signs-between (pos (suc m)) (negsuc n) e = inr (omega (arith, ints), omega (arith, ints))
+signs-between (negsuc m) (pos n) e = inl (omega (arith, ints), omega (arith, ints))
+signs-between (negsuc m) (negsuc n) e = absurd (e refl)
 
 -- the determinant, taken from the segment's end, is the side, taken from its start
 pub det-side : (s : Segment) (c : GridPoint) → det (s .p) (s .q) c ≡ side s (c .x) (c .y)

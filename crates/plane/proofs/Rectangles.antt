@@ -18,9 +18,9 @@ use Rattle.plane.specs.Sets.{Common, At, Box, spanned, InBox}
 use Rattle.plane.proofs.Terms.{Ordered, RangesOverlap, Overlapping, OneSide, Overlap, side}
 use Rattle.plane.proofs.Integers.{lin, le-mul}
 use Rattle.plane.proofs.Answers.{reflects-same}
-use Rattle.plane.proofs.Orientations.{left-turn, right-turn, left-of, right-of, left-not-level, right-not-level, turn, turn-side}
-use Rattle.plane.proofs.Boxes.{whole-in, less, boxes-yes, boxes-no}
-use Rattle.plane.proofs.Clipping.{clip-yes, aside-no}
+use Rattle.plane.proofs.Orientations.{left-turn, right-turn, left-of, right-of, left-not-collinear, right-not-collinear, turn, turn-side}
+use Rattle.plane.proofs.Boxes.{grid-point-in, cancel-denominator-le, overlap-common, common-overlap}
+use Rattle.plane.proofs.Clipping.{not-one-side-meets, one-side-misses}
 use Rattle.plane.proofs.Segments.{at-self}
 
 pub spanned-ordered : (p q : GridPoint) → Ordered (spanned p q)
@@ -38,36 +38,36 @@ Held r c = (r .min .x ≤ℤ c .x) × (c .x ≤ℤ r .max .x) × (r .min .y ≤�
 pub box-coord-reflects : (b : Bool) (r : Box) (c : GridPoint) → Reflects b (Held r c) → Reflects b (Common (InBox r) (At c))
 box-coord-reflects b r c h =
     reflects-same b
-    (λ k. record { X = c .x; Y = c .y; d = 1; positive = omega arith; first = whole-in r (c .x) (c .y) k; second = at-self c })
+    (λ k. record { X = c .x; Y = c .y; d = 1; positive = omega arith; first = grid-point-in r (c .x) (c .y) k; second = at-self c })
     (λ m. (
-      less (m .d) _ _ (m .positive) (omega (arith, lin, m .first .left, m .second .at-x)),
-      less (m .d) _ _ (m .positive) (omega (arith, lin, m .first .right, m .second .at-x)),
-      less (m .d) _ _ (m .positive) (omega (arith, lin, m .first .under, m .second .at-y)),
-      less (m .d) _ _ (m .positive) (omega (arith, lin, m .first .over, m .second .at-y)),
+      cancel-denominator-le (m .d) _ _ (m .positive) (omega (arith, lin, m .first .left, m .second .at-x)),
+      cancel-denominator-le (m .d) _ _ (m .positive) (omega (arith, lin, m .first .right, m .second .at-x)),
+      cancel-denominator-le (m .d) _ _ (m .positive) (omega (arith, lin, m .first .under, m .second .at-y)),
+      cancel-denominator-le (m .d) _ _ (m .positive) (omega (arith, lin, m .first .over, m .second .at-y)),
     ))
     h
 
 -- ---- two boxes
 
 pub boxes-reflect : (b : Bool) (p q : Box) → Ordered p → Ordered q → Reflects b (Overlap p q) → Reflects b (Common (InBox p) (InBox q))
-boxes-reflect b p q u v h = reflects-same b (boxes-yes p q u v) (boxes-no p q) h
+boxes-reflect b p q u v h = reflects-same b (overlap-common p q u v) (common-overlap p q) h
 
 -- ---- a box and a segment
 
-laps : (lo hi p q : ℤ) → minZ p q ≤ℤ hi → lo ≤ℤ maxZ p q → RangesOverlap lo hi p q
-laps lo hi p q h k = (
+spans-overlap : (lo hi p q : ℤ) → minZ p q ≤ℤ hi → lo ≤ℤ maxZ p q → RangesOverlap lo hi p q
+spans-overlap lo hi p q h k = (
   by-ltZ p lo (λ l. by-ltZ q lo (λ m. absurd (omega (arith, ints, clamps))) inr) inl,
   by-ltZ hi p (λ l. by-ltZ hi q (λ m. absurd (omega (arith, ints, clamps))) inr) inl,
 )
 
 -- the box meets the one around the segment: their ranges overlap
-pub around : (r : Box) (s : Segment) → Common (InBox r) (InBox (spanned (s .p) (s .q))) → Overlapping r s
-around r s m =
-    let o = boxes-no r (spanned (s .p) (s .q)) m in
-    (laps (r .min .x) (r .max .x) (s .p .x) (s .q .x) (o .0) (o .2), laps (r .min .y) (r .max .y) (s .p .y) (s .q .y) (o .1) (o .3))
+pub around-overlapping : (r : Box) (s : Segment) → Common (InBox r) (InBox (spanned (s .p) (s .q))) → Overlapping r s
+around-overlapping r s m =
+    let o = common-overlap r (spanned (s .p) (s .q)) m in
+    (spans-overlap (r .min .x) (r .max .x) (s .p .x) (s .q .x) (o .0) (o .2), spans-overlap (r .min .y) (r .max .y) (s .p .y) (s .q .y) (o .1) (o .3))
 
-amid : (d a b X : ℤ) → pos 0 ≤ℤ d → Between X (d *ℤ a) (d *ℤ b) → ((d *ℤ minZ a b) ≤ℤ X) × (X ≤ℤ (d *ℤ maxZ a b))
-amid d a b X h k =
+between-span : (d a b X : ℤ) → pos 0 ≤ℤ d → Between X (d *ℤ a) (d *ℤ b) → ((d *ℤ minZ a b) ≤ℤ X) × (X ≤ℤ (d *ℤ maxZ a b))
+between-span d a b X h k =
     let u : minZ a b ≤ℤ a = omega (arith, ints, clamps) in
     let v : minZ a b ≤ℤ b = omega (arith, ints, clamps) in
     let w : a ≤ℤ maxZ a b = omega (arith, ints, clamps) in
@@ -75,11 +75,11 @@ amid d a b X h k =
     (omega (arith, lin, k, le-mul d (minZ a b) a h u, le-mul d (minZ a b) b h v), omega (arith, lin, k, le-mul d a (maxZ a b) h w, le-mul d b (maxZ a b) h z))
 
 -- a point in common with the segment is one with the box around it
-pub far : (r : Box) (s : Segment) → (Common (InBox r) (InBox (spanned (s .p) (s .q))) → ⊥) → Common (InBox r) (On s) → ⊥
-far r s n m =
+pub around-missed : (r : Box) (s : Segment) → (Common (InBox r) (InBox (spanned (s .p) (s .q))) → ⊥) → Common (InBox r) (On s) → ⊥
+around-missed r s n m =
     let z : pos 0 ≤ℤ pos (m .d) = omega (arith, ints) in
-    let x = amid (pos (m .d)) (s .p .x) (s .q .x) (m .X) z (m .second .in-x) in
-    let y = amid (pos (m .d)) (s .p .y) (s .q .y) (m .Y) z (m .second .in-y) in
+    let x = between-span (pos (m .d)) (s .p .x) (s .q .x) (m .X) z (m .second .in-x) in
+    let y = between-span (pos (m .d)) (s .p .y) (s .q .y) (m .Y) z (m .second .in-y) in
     n (record { X = m .X; Y = m .Y; d = m .d; positive = m .positive; first = m .first; second = record { left = x .0; right = x .1; under = y .0; over = y .1 } })
 
 -- the corners other than `min` and `max`
@@ -94,10 +94,10 @@ module _ (s : Segment) (r : Box) where
   one-side-alike : OneSide s r → (turn s (r .min) ≡ turn s (low-right r)) × (turn s (r .min) ≡ turn s (r .max)) × (turn s (r .min) ≡ turn s (high-left r)) × (turn s (r .min) ≡ Collinear → ⊥)
   one-side-alike (inl f) =
       let a = turn-side s (r .min) ∙ sym (left-turn _ (f .0)) in
-      (a ∙ left-turn _ (f .1) ∙ sym (turn-side s (low-right r)), a ∙ left-turn _ (f .2) ∙ sym (turn-side s (r .max)), a ∙ left-turn _ (f .3) ∙ sym (turn-side s (high-left r)), λ e. left-not-level (sym a ∙ e))
+      (a ∙ left-turn _ (f .1) ∙ sym (turn-side s (low-right r)), a ∙ left-turn _ (f .2) ∙ sym (turn-side s (r .max)), a ∙ left-turn _ (f .3) ∙ sym (turn-side s (high-left r)), λ e. left-not-collinear (sym a ∙ e))
   one-side-alike (inr f) =
       let a = turn-side s (r .min) ∙ sym (right-turn _ (f .0)) in
-      (a ∙ right-turn _ (f .1) ∙ sym (turn-side s (low-right r)), a ∙ right-turn _ (f .2) ∙ sym (turn-side s (r .max)), a ∙ right-turn _ (f .3) ∙ sym (turn-side s (high-left r)), λ e. right-not-level (sym a ∙ e))
+      (a ∙ right-turn _ (f .1) ∙ sym (turn-side s (low-right r)), a ∙ right-turn _ (f .2) ∙ sym (turn-side s (r .max)), a ∙ right-turn _ (f .3) ∙ sym (turn-side s (high-left r)), λ e. right-not-collinear (sym a ∙ e))
 
   alike-one-side : turn s (r .min) ≡ turn s (low-right r) → turn s (r .min) ≡ turn s (r .max) → turn s (r .min) ≡ turn s (high-left r) → (turn s (r .min) ≡ Collinear → ⊥) → OneSide s r
   alike-one-side p q t n = go (turn s (r .min)) refl
@@ -113,23 +113,23 @@ module _ (s : Segment) (r : Box) where
 -- the box around the segment meets the box
 module _ (s : Segment) (r : Box) (u : Ordered r) (n : Common (InBox r) (InBox (spanned (s .p) (s .q)))) where
   pub low-right-apart : (turn s (r .min) ≡ turn s (low-right r) → ⊥) → Common (InBox r) (On s)
-  low-right-apart k = clip-yes r s u (around r s n) (λ a. k (one-side-alike s r a .0))
+  low-right-apart k = not-one-side-meets r s u (around-overlapping r s n) (λ a. k (one-side-alike s r a .0))
 
   pub high-right-apart : (turn s (r .min) ≡ turn s (r .max) → ⊥) → Common (InBox r) (On s)
-  high-right-apart k = clip-yes r s u (around r s n) (λ a. k (one-side-alike s r a .1))
+  high-right-apart k = not-one-side-meets r s u (around-overlapping r s n) (λ a. k (one-side-alike s r a .1))
 
   pub high-left-apart : (turn s (r .min) ≡ turn s (high-left r) → ⊥) → Common (InBox r) (On s)
-  high-left-apart k = clip-yes r s u (around r s n) (λ a. k (one-side-alike s r a .2))
+  high-left-apart k = not-one-side-meets r s u (around-overlapping r s n) (λ a. k (one-side-alike s r a .2))
 
   pub corners-reflect : (b : Bool) → turn s (r .min) ≡ turn s (low-right r) → turn s (r .min) ≡ turn s (r .max) → turn s (r .min) ≡ turn s (high-left r) → Reflects b (turn s (r .min) ≡ Collinear) → Reflects b (Common (InBox r) (On s))
-  corners-reflect b p q t h = reflects-same b (λ e. clip-yes r s u (around r s n) (λ a. one-side-alike s r a .3 e)) flat h
+  corners-reflect b p q t h = reflects-same b (λ e. not-one-side-meets r s u (around-overlapping r s n) (λ a. one-side-alike s r a .3 e)) flat h
     where
       flat : Common (InBox r) (On s) → turn s (r .min) ≡ Collinear
       flat m = go (turn s (r .min)) refl
         where
           go : (o : Orientation) → turn s (r .min) ≡ o → turn s (r .min) ≡ Collinear
-          go CounterClockwise e = absurd (aside-no r s m (alike-one-side s r p q t (λ f. left-not-level (sym e ∙ f))))
-          go Clockwise e = absurd (aside-no r s m (alike-one-side s r p q t (λ f. right-not-level (sym e ∙ f))))
+          go CounterClockwise e = absurd (one-side-misses r s m (alike-one-side s r p q t (λ f. left-not-collinear (sym e ∙ f))))
+          go Clockwise e = absurd (one-side-misses r s m (alike-one-side s r p q t (λ f. right-not-collinear (sym e ∙ f))))
           go Collinear e = e
 
 -- a box by its corners

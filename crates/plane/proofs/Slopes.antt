@@ -1,4 +1,4 @@
--- Points on a line that is not upright.
+-- Points on a line that is not vertical.
 use Prim.Native.Nat.{ℕ, _*_, _≤_, _<_}
 use native.Mathlib.Omega.{arith}
 use mathlib.Core.Path.{_≡_, ap}
@@ -8,16 +8,16 @@ use lib.Signed.{_≤ℤ_, _<ℤ_}
 use Rattle.std.proofs.shelf.Signed.{by-ltZ}
 use Rattle.plane.specs.Points.{Segment, On, Between}
 use Rattle.plane.proofs.Terms.{Along}
-use Rattle.plane.proofs.Integers.{ring, lin, mul-up, cancel-up, cancel-eq, mul-neg, neg-mul}
+use Rattle.plane.proofs.Integers.{ring, lin, mul-nonneg, cancel-nonneg, cancel-eq, mul-neg, neg-mul}
 
--- two vectors along a third that is not upright are along one another
-pub cross : (dx dy u1 u2 w1 w2 : ℤ) → pos 0 <ℤ dx → dx *ℤ w2 ≡ dy *ℤ w1 → dx *ℤ u2 ≡ dy *ℤ u1 → u1 *ℤ w2 ≡ u2 *ℤ w1
-cross dx dy u1 u2 w1 w2 h e f =
+-- two vectors along a third that is not vertical are along one another
+pub parallel : (dx dy u1 u2 w1 w2 : ℤ) → pos 0 <ℤ dx → dx *ℤ w2 ≡ dy *ℤ w1 → dx *ℤ u2 ≡ dy *ℤ u1 → u1 *ℤ w2 ≡ u2 *ℤ w1
+parallel dx dy u1 u2 w1 w2 h e f =
     cancel-eq dx _ _ h (omega (arith, lin, simp ring at (ap (λ (z : ℤ). u1 *ℤ z) e), simp ring at (ap (λ (z : ℤ). z *ℤ w1) f)))
 
 -- the other coordinate goes the way of the slope
 pub slope-up : (dx dy w1 w2 : ℤ) → pos 0 <ℤ dx → dx *ℤ w2 ≡ dy *ℤ w1 → pos 0 ≤ℤ dy → pos 0 ≤ℤ w1 → pos 0 ≤ℤ w2
-slope-up dx dy w1 w2 h e p q = cancel-up dx w2 h (omega (arith, lin, mul-up dy w1 p q))
+slope-up dx dy w1 w2 h e p q = cancel-nonneg dx w2 h (omega (arith, lin, mul-nonneg dy w1 p q))
 
 pub slope-down : (dx dy w1 w2 : ℤ) → pos 0 <ℤ dx → dx *ℤ w2 ≡ dy *ℤ w1 → pos 0 ≤ℤ dy → w1 ≤ℤ pos 0 → w2 ≤ℤ pos 0
 slope-down dx dy w1 w2 h e p q =
@@ -45,7 +45,7 @@ on-along s t l g X Y d e b =
     simp ring (omega (arith, lin, simp ring at e, simp ring at (ap (λ (z : ℤ). pos d *ℤ z) (g .at-q)))) in
     let e3 : dx *ℤ (t .q .y -ℤ t .p .y) ≡ dy *ℤ (t .q .x -ℤ t .p .x) =
     simp ring (omega (arith, lin, simp ring at (g .at-p), simp ring at (g .at-q))) in
-    record { line = cross dx dy (t .q .x -ℤ t .p .x) (t .q .y -ℤ t .p .y) (X -ℤ pos d *ℤ t .p .x) (Y -ℤ pos d *ℤ t .p .y) h e1 e3; in-x = b; in-y = both dx dy h e1 e2 b }
+    record { line = parallel dx dy (t .q .x -ℤ t .p .x) (t .q .y -ℤ t .p .y) (X -ℤ pos d *ℤ t .p .x) (Y -ℤ pos d *ℤ t .p .y) h e1 e3; in-x = b; in-y = both dx dy h e1 e2 b }
   where
     both : (dx dy : ℤ) → pos 0 <ℤ dx → dx *ℤ (Y -ℤ pos d *ℤ t .p .y) ≡ dy *ℤ (X -ℤ pos d *ℤ t .p .x) → dx *ℤ (Y -ℤ pos d *ℤ t .q .y) ≡ dy *ℤ (X -ℤ pos d *ℤ t .q .x) → Between X (pos d *ℤ t .p .x) (pos d *ℤ t .q .x) → Between Y (pos d *ℤ t .p .y) (pos d *ℤ t .q .y)
     both dx dy h e1 e2 (inl a) =

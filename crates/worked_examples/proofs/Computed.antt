@@ -15,7 +15,7 @@ use Rattle.plane.specs.Points.{Segment, On, Between}
 use Rattle.plane.specs.Sets.{Common, Box, InBox}
 use Rattle.plane.proofs.Integers.{lin}
 use Rattle.plane.proofs.Terms.{OneSide, side}
-use Rattle.plane.proofs.Clipping.{aside-no}
+use Rattle.plane.proofs.Clipping.{one-side-misses}
 use Rattle.worked_examples.specs.Examples.{WorkedExamples, at, line, square}
 
 -- ---- the tests, and what each tells
@@ -107,6 +107,6 @@ worked =
     let p = parts (left turning) (misses clear square) (in-box square (pos 4) (pos 4) 1) (on grazing (pos 4) (pos 4) 1) computed in
     record {
       turn = left-tells turning (p .0);
-      missed = λ m. aside-no square clear m (misses-tells clear square (p .1));
+      missed = λ m. one-side-misses square clear m (misses-tells clear square (p .1));
       met = meets-tells square grazing (pos 4) (pos 4) 1 (p .2) (p .3);
     }

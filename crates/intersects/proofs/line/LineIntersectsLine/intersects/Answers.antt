@@ -2,7 +2,7 @@ use mathlib.Core.Path.{sym, ap, _∙_}
 use Rattle.scalar.specs.Coords.{grid-point}
 use Rattle.geometry.specs.Shapes.{segment}
 use Rattle.plane.proofs.Answers.{reflects-same, ne-reflects, ne-left}
-use Rattle.plane.proofs.Segments.{point-reflects, cross-reflects, aside-no, level-reflects}
+use Rattle.plane.proofs.Segments.{point-reflects, cross-reflects, same-side-misses, collinear-reflects}
 use Rattle.scalar.proofs.CoordLaws.{same-coord}
 use Rattle.intersects.proofs.line.LineIntersectsLine.intersects.Needs as need
 
@@ -35,7 +35,7 @@ returns-then-eq-2 g c =
     let o12 = c .orient2d-check-1-2 .ensures .turn in
     record {
       points =
-          level-reflects (c .overlap-along .result) (segment u (c .args .self .now)) (segment u (c .args .line .now))
+          collinear-reflects (c .overlap-along .result) (segment u (c .args .self .now)) (segment u (c .args .line .now))
           (λ e. c .if-eq .ensures tt (same-coord u (g .T·CoordNum·met .«equal_units») _ _ e))
           (sym o11 ∙ ne-left _ _ (c .if-ne .ensures tt) ∙ o12) (sym o11 ∙ c .if-eq-2 .ensures tt) (c .overlap-along .ensures);
     }
@@ -47,5 +47,5 @@ returns-else-eq-2 g c =
     let o12 = c .orient2d-check-1-2 .ensures .turn in
     record {
       points =
-          aside-no (segment u (c .args .self .now)) (segment u (c .args .line .now)) (sym o11 ∙ ne-left _ _ (c .if-ne .ensures tt) ∙ o12) (λ e. c .if-eq-2 .ensures tt (o11 ∙ e));
+          same-side-misses (segment u (c .args .self .now)) (segment u (c .args .line .now)) (sym o11 ∙ ne-left _ _ (c .if-ne .ensures tt) ∙ o12) (λ e. c .if-eq-2 .ensures tt (o11 ∙ e));
     }

@@ -6,7 +6,7 @@ use Rattle.plane.specs.Points.{Segment}
 use Rattle.plane.specs.Sets.{Box, Common, InBox}
 use Rattle.plane.proofs.Answers.{reflects-same, eq-reflects, ne-reflects, ne-left}
 use Rattle.plane.proofs.Orientations.{turn}
-use Rattle.plane.proofs.Rectangles.{far, low-right, high-left, low-right-apart, high-right-apart, high-left-apart, corners-reflect}
+use Rattle.plane.proofs.Rectangles.{around-missed, low-right, high-left, low-right-apart, high-right-apart, high-left-apart, corners-reflect}
 use Rattle.geometry.specs.Shapes.{segment}
 use Rattle.geometry.specs.Rects.{box}
 use Rattle.geometry.proofs.RectLaws.{box-ordered}
@@ -29,7 +29,7 @@ returns-then-not-intersects g c =
     let r = box u (c .args .self .now) in
     record {
       points =
-          far r (segment u (c .args .rhs .now)) (subst (λ (b : Box). Common (InBox r) (InBox b) → ⊥) (c .new .ensures .corners) (c .if-not-intersects .ensures tt .points));
+          around-missed r (segment u (c .args .rhs .now)) (subst (λ (b : Box). Common (InBox r) (InBox b) → ⊥) (c .new .ensures .corners) (c .if-not-intersects .ensures tt .points));
     }
 
 pub returns-then-ne : need.returns-then-ne
