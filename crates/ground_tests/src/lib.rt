@@ -17,14 +17,14 @@ use scalar::coord::Coord;
 use scalar::coord_num::CoordNum;
 
 // Shapes by their units, at any scalar.
-pub fn at<T: CoordNum>(x: i32, y: i32) -> Coord<T> {
+pub(crate) fn at<T: CoordNum>(x: i32, y: i32) -> Coord<T> {
     Coord::from_grid(GridPoint { x, y })
 }
 
-pub fn line<T: CoordNum>(ax: i32, ay: i32, bx: i32, by: i32) -> Line<T> {
+pub(crate) fn line<T: CoordNum>(ax: i32, ay: i32, bx: i32, by: i32) -> Line<T> {
     Line::new(at(ax, ay), at(bx, by))
 }
 
-pub fn rect<T: CoordNum>(ax: i32, ay: i32, bx: i32, by: i32) -> Rect<T> {
+pub(crate) fn rect<T: CoordNum>(ax: i32, ay: i32, bx: i32, by: i32) -> Rect<T> {
     Rect::new(at(ax, ay), at(bx, by))
 }

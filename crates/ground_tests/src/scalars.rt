@@ -28,11 +28,12 @@ fn carried(fault: F64Fault) -> f64 {
     }
 }
 
-fn unit_outcome(u: i32) -> (bool, i32) {
+// The number of the refusal, 0 where there is none, and the number of units or the one that came back.
+fn unit_outcome(u: i32) -> (u8, i32) {
     match I32Scalar::new(u) {
-        Ok(s) => (true, s.to_units()),
+        Ok(s) => (0, s.to_units()),
         Err(fault) => match fault {
-            I32Fault::BeyondReach(value) => (fault.number() != 2, value),
+            I32Fault::BeyondReach(value) => (fault.number(), value),
         },
     }
 }
@@ -89,12 +90,12 @@ fn minus_zero_becomes_zero() -> Result<(), Fail> {
 
 #[test]
 fn units_within_and_beyond_reach() -> Result<(), Fail> {
-    check_eq(unit_outcome(536870912), (true, 536870912))?;
-    check_eq(unit_outcome(536870913), (false, 536870913))?;
-    check_eq(unit_outcome(-536870912), (true, -536870912))?;
-    check_eq(unit_outcome(-536870913), (false, -536870913))?;
-    check_eq(unit_outcome(i32::MIN), (false, i32::MIN))?;
-    check_eq(unit_outcome(i32::MAX), (false, i32::MAX))
+    check_eq(unit_outcome(536870912), (0, 536870912))?;
+    check_eq(unit_outcome(536870913), (2, 536870913))?;
+    check_eq(unit_outcome(-536870912), (0, -536870912))?;
+    check_eq(unit_outcome(-536870913), (2, -536870913))?;
+    check_eq(unit_outcome(i32::MIN), (2, i32::MIN))?;
+    check_eq(unit_outcome(i32::MAX), (2, i32::MAX))
 }
 
 // The refusal that a coordinate of two floats gets, or 0.

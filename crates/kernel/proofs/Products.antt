@@ -11,22 +11,22 @@ use Rattle.std.proofs.shelf.Signed.{ints, toZ-ofZ}
 use Rattle.plane.specs.Orient.{AtMostTwoTo61}
 use Rattle.kernel.specs.Signs.{Difference}
 
-product : (m n : ℕ) → m ≤ 1073741824 → n ≤ 1073741824 → m * n ≤ 1152921504606846976
-product m n h k = mul-le-mul h k
+product-bound : (m n : ℕ) → m ≤ 1073741824 → n ≤ 1073741824 → m * n ≤ 1152921504606846976
+product-bound m n h k = mul-le-mul h k
 
 -- the product of two differences lies from -2 ^ 60 to 2 ^ 60
 product-within : (a b : ℤ) → Difference a → Difference b → (negsuc 1152921504606846975 ≤ℤ (a *ℤ b)) × ((a *ℤ b) ≤ℤ pos 1152921504606846976)
-product-within (pos m) (pos n) h k = (omega (arith, ints), omega (arith, ints, product m n (omega (arith, ints)) (omega (arith, ints))))
-product-within (pos m) (negsuc n) h k = (omega (arith, ints, product m (suc n) (omega (arith, ints)) (omega (arith, ints))), omega (arith, ints, product m (suc n) (omega (arith, ints)) (omega (arith, ints))))
-product-within (negsuc m) (pos n) h k = (omega (arith, ints, product (suc m) n (omega (arith, ints)) (omega (arith, ints))), omega (arith, ints, product (suc m) n (omega (arith, ints)) (omega (arith, ints))))
-product-within (negsuc m) (negsuc n) h k = (omega (arith, ints), omega (arith, ints, product (suc m) (suc n) (omega (arith, ints)) (omega (arith, ints))))
+product-within (pos m) (pos n) h k = (omega (arith, ints), omega (arith, ints, product-bound m n (omega (arith, ints)) (omega (arith, ints))))
+product-within (pos m) (negsuc n) h k = (omega (arith, ints, product-bound m (suc n) (omega (arith, ints)) (omega (arith, ints))), omega (arith, ints, product-bound m (suc n) (omega (arith, ints)) (omega (arith, ints))))
+product-within (negsuc m) (pos n) h k = (omega (arith, ints, product-bound (suc m) n (omega (arith, ints)) (omega (arith, ints))), omega (arith, ints, product-bound (suc m) n (omega (arith, ints)) (omega (arith, ints))))
+product-within (negsuc m) (negsuc n) h k = (omega (arith, ints), omega (arith, ints, product-bound (suc m) (suc n) (omega (arith, ints)) (omega (arith, ints))))
 
 -- the difference of two such products
-near : (z w : ℤ) → (negsuc 1152921504606846975 ≤ℤ z) × (z ≤ℤ pos 1152921504606846976) → (negsuc 1152921504606846975 ≤ℤ w) × (w ≤ℤ pos 1152921504606846976) → AtMostTwoTo61 (z -ℤ w)
-near z w h k = (omega (arith, ints), omega (arith, ints))
+difference-within : (z w : ℤ) → (negsuc 1152921504606846975 ≤ℤ z) × (z ≤ℤ pos 1152921504606846976) → (negsuc 1152921504606846975 ≤ℤ w) × (w ≤ℤ pos 1152921504606846976) → AtMostTwoTo61 (z -ℤ w)
+difference-within z w h k = (omega (arith, ints), omega (arith, ints))
 
 pub at-most-two-to-61 : (a b c e : ℤ) → Difference a × Difference b × Difference c × Difference e → AtMostTwoTo61 ((a *ℤ b) -ℤ (c *ℤ e))
-at-most-two-to-61 a b c e h = near (a *ℤ b) (c *ℤ e) (product-within a b (h .0) (h .1)) (product-within c e (h .2) (h .3))
+at-most-two-to-61 a b c e h = difference-within (a *ℤ b) (c *ℤ e) (product-within a b (h .0) (h .1)) (product-within c e (h .2) (h .3))
 
 pub product-fits : (a b : ℤ) → Difference a → Difference b → SFits w64 (a *ℤ b)
 product-fits a b h k = omega (arith, ints, product-within a b h k)

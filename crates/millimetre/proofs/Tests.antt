@@ -72,8 +72,8 @@ trunc-is false m e = refl
 
 -- q / p is n / d, and n / d is at most 2 ^ 29
 module _ (q p n d : ℕ) (P : 0 < p) (D : 0 < d) (v : q * d ≡ n * p) where
-  cut-small : n ≤ 536870912 * d → q / p ≤ 2 ^ 53
-  cut-small h =
+  cut-bound : n ≤ 536870912 * d → q / p ≤ 2 ^ 53
+  cut-bound h =
       let a : q / p * p * d ≤ n * p = le-trans (mul-le-mul-right d (div-mul-le-self q p)) (le-of-eq v) in
       let b : n * p ≤ 536870912 * d * p = mul-le-mul-right p h in
       let c : q / p * (p * d) ≤ 536870912 * (p * d) = le-trans (le-of-eq (sym (mul-assoc (q / p) p d))) (le-trans a (le-trans b (le-of-eq (mul-assoc 536870912 d p ∙ ap (λ (z : ℕ). 536870912 * z) (mul-comm d p))))) in
@@ -92,33 +92,33 @@ module _ (q p n d : ℕ) (P : 0 < p) (D : 0 < d) (v : q * d ≡ n * p) where
       let b : q ≡ k * p = eq-of-mul-eq-mul-right d D q (k * p) (v ∙ ap (λ (z : ℕ). z * p) a ∙ mul-right-comm k d p) in
       b ∙ ap (λ (z : ℕ). z * p) (sym (ap (λ (z : ℕ). z / p) b ∙ mul-div-cancel k P))
 
-pub trunc-says : (y : Float) (s : Bool) (n d : ℕ) → 0 < d → n ≤ 536870912 * d → HasValue y s n d → (T (eq y (trunc binary64 y)) → n % d ≡ 0) × (n % d ≡ 0 → T (eq y (trunc binary64 y)))
-trunc-says nan s n d D h v = absurd v
-trunc-says (inf u) s n d D h v = absurd v
-trunc-says (fin t m e) s n d D h v =
+pub trunc-tells : (y : Float) (s : Bool) (n d : ℕ) → 0 < d → n ≤ 536870912 * d → HasValue y s n d → (T (eq y (trunc binary64 y)) → n % d ≡ 0) × (n % d ≡ 0 → T (eq y (trunc binary64 y)))
+trunc-tells nan s n d D h v = absurd v
+trunc-tells (inf u) s n d D h v = absurd v
+trunc-tells (fin t m e) s n d D h v =
     let q = m * up e in
     let p = down e in
-    let r = eq-of t m e (round binary64 t (q / p) 1) (q / p) (round-whole binary64 t (q / p) (cut-small q p n d (down-pos e) D (v .1) h)) in (
+    let r = eq-of t m e (round binary64 t (q / p) 1) (q / p) (round-whole binary64 t (q / p) (cut-bound q p n d (down-pos e) D (v .1) h)) in (
       (λ x. no-rest q p n d (down-pos e) D (v .1) (r .0 (subst (λ (z : Float). T (eq (fin t m e) z)) (trunc-is t m e) x))),
       (λ x. subst (λ (z : Float). T (eq (fin t m e) z)) (sym (trunc-is t m e)) (r .1 (all-cut q p n d (down-pos e) D (v .1) x))),
     )
 
 -- a number within reach, times 256, equals its whole part exactly if it is whole
-pub whole-says : (x : Float) → T (fits binary64 x) → T (not (isNan x)) → T (not (beyond x))
+pub whole-tells : (x : Float) → T (fits binary64 x) → T (not (isNan x)) → T (not (beyond x))
     → (T (eq (mul binary64 x k256) (trunc binary64 (mul binary64 x k256))) → T (whole x)) × (T (whole x) → T (eq (mul binary64 x k256) (trunc binary64 (mul binary64 x k256))))
 unfolding isNan
-whole-says nan F n b = absurd n
-whole-says (inf s) F n b = absurd b
-whole-says (fin s m e) F n b =
+whole-tells nan F n b = absurd n
+whole-tells (inf s) F n b = absurd b
+whole-tells (fin s m e) F n b =
     let h : m * up e * 256 ≤ 536870912 * down e = nltb→le (536870912 * down e) (m * up e * 256) b in
-    let k = trunc-says (mul binary64 (fin s m e) k256) s (m * up e * 256) (down e) (down-pos e) h (scaled-value s m e F (omega arith)) in
+    let k = trunc-tells (mul binary64 (fin s m e) k256) s (m * up e * 256) (down e) (down-pos e) h (scaled-value s m e F (omega arith)) in
     ((λ x. eq→eqb (k .0 x)), (λ x. k .1 (eqb→eq (m * up e * 256 % down e) 0 x)))
 
 -- ---- no -0
 
-zero-level : (s : Bool) (m : ℕ) (e : ℤ) → m ≡ 0 → T (eq (fin s m e) (fin false 0 (pos 0)))
+zero-equals : (s : Bool) (m : ℕ) (e : ℤ) → m ≡ 0 → T (eq (fin s m e) (fin false 0 (pos 0)))
 unfolding eq
-zero-level s m e z =
+zero-equals s m e z =
     let a : m * up e * 1 ≡ 0 = ap (λ (k : ℕ). k * up e * 1) z ∙ omega arith in
     let b : 0 * 1 * down e ≡ 0 = omega arith in
     and-i (eqb (m * up e * 1) (0 * 1 * down e)) (Bool·beq s false || eqb (m * up e * 1) 0) (eq→eqb (a ∙ sym b)) (or-r (Bool·beq s false) (eqb (m * up e * 1) 0) (eq→eqb a))
@@ -130,10 +130,10 @@ zero-level s m e z =
 pub not-zero : (x : Float) → eq x (fin false 0 (pos 0)) ≡ false → T (not (minus-zero x))
 not-zero nan h = tt
 not-zero (inf s) h = tt
-not-zero (fin s m e) h = not-T (s && eqb m 0) (λ t. T-not (eq (fin s m e) (fin false 0 (pos 0))) (no (eq (fin s m e) (fin false 0 (pos 0))) h) (zero-level s m e (eqb→eq m 0 (and-r s (eqb m 0) t))))
+not-zero (fin s m e) h = not-T (s && eqb m 0) (λ t. T-not (eq (fin s m e) (fin false 0 (pos 0))) (no (eq (fin s m e) (fin false 0 (pos 0))) h) (zero-equals s m e (eqb→eq m 0 (and-r s (eqb m 0) t))))
 
-pub all-three : (x : Float) → T (whole x) → T (not (beyond x)) → T (not (minus-zero x)) → T (on-grid x)
-all-three x a b c = and-i (whole x && not (beyond x)) (not (minus-zero x)) (and-i (whole x) (not (beyond x)) a b) c
+pub on-grid-by-tests : (x : Float) → T (whole x) → T (not (beyond x)) → T (not (minus-zero x)) → T (on-grid x)
+on-grid-by-tests x a b c = and-i (whole x && not (beyond x)) (not (minus-zero x)) (and-i (whole x) (not (beyond x)) a b) c
 
 -- what equals 0.0 means 0
 pub zero-units : (x : Float) → eq x (fin false 0 (pos 0)) ≡ true → units-of x ≡ pos 0
@@ -148,14 +148,14 @@ zero-units (fin s m e) h =
 
 -- ---- the tests that the code makes
 
-both : (a b : Bool) → (T a → T b) → (T (not a) → T (not b)) → a ≡ b
-both true true f g = refl
-both true false f g = absurd (f tt)
-both false true f g = absurd (g tt)
-both false false f g = refl
+equal-tests : (a b : Bool) → (T a → T b) → (T (not a) → T (not b)) → a ≡ b
+equal-tests true true f g = refl
+equal-tests true false f g = absurd (f tt)
+equal-tests false true f g = absurd (g tt)
+equal-tests false false f g = refl
 
 pub reach-test : (x : Float) → lt (fin false 1 (pos 21)) (withSign false x) ≡ beyond x
-reach-test x = both (lt (fin false 1 (pos 21)) (withSign false x)) (beyond x) (over-reach x) (in-reach x)
+reach-test x = equal-tests (lt (fin false 1 (pos 21)) (withSign false x)) (beyond x) (over-reach x) (in-reach x)
 
 nan-differs : eq (mul binary64 nan k256) (trunc binary64 (mul binary64 nan k256)) ≡ false
 unfolding eq mul
@@ -166,6 +166,6 @@ unfolding isNan
 whole-test nan F b = nan-differs
 whole-test (inf s) F b = absurd b
 whole-test (fin s m e) F b =
-    let k = whole-says (fin s m e) F tt b in
+    let k = whole-tells (fin s m e) F tt b in
     let a = eq (mul binary64 (fin s m e) k256) (trunc binary64 (mul binary64 (fin s m e) k256)) in
-    both a (whole (fin s m e)) (k .0) (λ n. not-T (whole (fin s m e)) (λ w. T-not a n (k .1 w)))
+    equal-tests a (whole (fin s m e)) (k .0) (λ n. not-T (whole (fin s m e)) (λ w. T-not a n (k .1 w)))

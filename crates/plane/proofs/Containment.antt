@@ -193,8 +193,11 @@ box-coord-contains b r c h =
         }
 
 -- strictly within, by comparisons
-pub strictly-whole : (b : Bool) (r : Box) (c : GridPoint) → Reflects b ((r .min .x <ℤ c .x) × (c .x <ℤ r .max .x) × (r .min .y <ℤ c .y) × (c .y <ℤ r .max .y)) → Reflects b (StrictlyInBox r (c .x) (c .y) 1)
-strictly-whole b r c h =
+abbrev pub StrictlyHeld : Box → GridPoint → Type 0
+StrictlyHeld r c = (r .min .x <ℤ c .x) × (c .x <ℤ r .max .x) × (r .min .y <ℤ c .y) × (c .y <ℤ r .max .y)
+
+pub strictly-held-reflects : (b : Bool) (r : Box) (c : GridPoint) → Reflects b (StrictlyHeld r c) → Reflects b (StrictlyInBox r (c .x) (c .y) 1)
+strictly-held-reflects b r c h =
     reflects-same b
     (λ k. record { left = simp one-mul (k .0); right = simp one-mul (k .1); under = simp one-mul (k .2); over = simp one-mul (k .3) })
     (λ k. (simp one-mul at (k .left), simp one-mul at (k .right), simp one-mul at (k .under), simp one-mul at (k .over)))
