@@ -1,5 +1,7 @@
 // Which shapes contain others: every point of the inner one is a point of the outer one, and some point of the inner
 // one is in the outer one's interior.
+#![tactic(auto)]
+
 pub mod line;
 pub mod line_string;
 pub mod rect;

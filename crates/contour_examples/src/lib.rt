@@ -1,4 +1,6 @@
 // Worked examples of the definitions of line strings, positions, groups and rings, shown by one computed check.
+#![tactic(auto)]
+
 ghost use Rattle.std.specs.Prelude.{◌≡◌};
 ghost use Rattle.contour_examples.specs.Examples.{ContourExamples};
 

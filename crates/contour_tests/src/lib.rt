@@ -1,4 +1,6 @@
 // Tests of line strings, positions, groups, rings and polygons on tables of examples, at both scalars.
+#![tactic(auto)]
+
 #[cfg(test)]
 mod containments;
 #[cfg(test)]

@@ -1,4 +1,6 @@
 // Where a coordinate lies: inside a shape, on its boundary, or outside; for shapes of any make and groups of them.
+#![tactic(auto)]
+
 pub mod alike;
 pub mod coordinate;
 pub mod group;

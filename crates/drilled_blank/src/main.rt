@@ -1,5 +1,7 @@
 // Where holes that are to be drilled lie in a milled blank: its outline and its window are taken onto the grid of 1/256
 // mm, and each hole is told by the rule that decides it. Every number and every verdict printed comes from the library.
+#![tactic(auto)]
+
 use coordinate_position::CoordinatePosition;
 use coordinate_position::position::CoordPos;
 use kernel::geo_num::GeoNum;

@@ -1,4 +1,6 @@
 // Lines, rectangles and triangles over any scalar, and the points that each shape has.
+#![tactic(auto)]
+
 pub mod line;
 pub mod point_set;
 pub mod rect;

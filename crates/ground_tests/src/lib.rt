@@ -1,4 +1,6 @@
 // Tests of the scalars, the kernels, the shapes and their relations on examples, at both scalars.
+#![tactic(auto)]
+
 #[cfg(test)]
 mod containments;
 #[cfg(test)]

@@ -1,4 +1,6 @@
 // Which shapes intersect: whether they have a rational point in common.
+#![tactic(auto)]
+
 pub mod coordinate;
 pub mod line;
 mod ranges;

@@ -1,5 +1,7 @@
 // One job from beginning to end: the outline of a milled blank and its clamp, taken onto the grid of 1/256 mm, and
 // which edges of the outline the clamp touches. Every number and every verdict printed comes from the library.
+#![tactic(auto)]
+
 use contains::Contains;
 use geometry::line::Line;
 use geometry::rect::Rect;

@@ -1,5 +1,5 @@
 -- Boxes: what comparisons of their corners tell of their points.
-use Rattle.std.proofs.Common.{ℕ, ◌+◌, ◌*◌, ◌<◌, ◌≤◌, ℤ, pos, ◌+ℤ◌, ◌*ℤ◌, ◌≤ℤ◌, ◌<ℤ◌, arith}
+use Rattle.std.proofs.Common.{ℕ, ◌≤◌, ℤ, pos, ◌+ℤ◌, ◌*ℤ◌, ◌≤ℤ◌, ◌<ℤ◌, arith}
 use Rattle.std.proofs.lemmas.Int.{ints, by_lt_z}
 use Rattle.plane.specs.Sets.{Common, Subset, Box, InBox, StrictlyInBox, WithinBounds}
 use Rattle.plane.proofs.Terms.{Ordered, Overlap, Into}

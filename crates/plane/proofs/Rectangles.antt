@@ -1,5 +1,5 @@
 -- What comparisons and turns tell of boxes, and of a box and a segment or a grid point.
-use Rattle.std.proofs.Common.{◌≡◌, ◌≤◌, Bool, ℤ, pos, ◌*ℤ◌, ◌≤ℤ◌, sym, refl, ◌∙◌, inl, inr, arith}
+use Rattle.std.proofs.Common.{◌≡◌, Bool, ℤ, pos, ◌*ℤ◌, ◌≤ℤ◌, sym, refl, ◌∙◌, inl, inr, arith}
 use Rattle.std.proofs.lemmas.Int.{ints, by_lt_z, clamps}
 use Rattle.std.specs.Int.{int_min, int_max}
 use Rattle.plane.specs.declared.grid_point.GridPoint.{GridPoint}

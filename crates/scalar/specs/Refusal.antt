@@ -6,6 +6,6 @@ pub record Refusal (A : Type 0) : Type 0 where
   pub value : Option A
 
 -- the first of two, if there is one, else the second
-abbrev pub first_of : {A : Type 0} → Option A → Option A → Option A
-first_of None b = b
-first_of (Some a) b = Some a
+abbrev pub first_refusal : {A : Type 0} → Option A → Option A → Option A
+first_refusal None b = b
+first_refusal (Some a) b = Some a

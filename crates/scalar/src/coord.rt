@@ -2,8 +2,8 @@
 ghost use Rattle.std.specs.Prelude.{◌≡◌, Some, None, MatchResult};
 ghost use Rattle.plane.specs.Reach.{WithinReach, read_point};
 ghost use Rattle.plane.specs.Reflects.{Reflects};
-ghost use Rattle.scalar.specs.Coords.{grid_point};
-ghost use Rattle.scalar.specs.Refusal.{first_of};
+ghost use Rattle.scalar.specs.Coords.{grid_point, equal_coords};
+ghost use Rattle.scalar.specs.Refusal.{first_refusal};
 ghost use Rattle.std.specs.Cmp.Rules.{comparing};
 ghost use Rattle.std.proofs.Common.{rules};
 
@@ -19,7 +19,7 @@ pub struct Coord<T> {
 impl<T: CoordNum> Coord<T> {
     // The coordinate of two numbers; x is checked before y.
     pub fn new(x: T::Raw, y: T::Raw) -> Result<Coord<T>, T::Fault>
-        ensures { MatchResult result (λ c. (first_of (T.CoordNum.refusal x) (T.CoordNum.refusal y) ≡ None) × (T.CoordNum.units c.x ≡ T.CoordNum.measure x) × (T.CoordNum.units c.y ≡ T.CoordNum.measure y)) (λ e. first_of (T.CoordNum.refusal x) (T.CoordNum.refusal y) ≡ Some (T.CoordNum.fault e)) }
+        ensures { MatchResult result (λ c. (first_refusal (T.CoordNum.refusal x) (T.CoordNum.refusal y) ≡ None) × (T.CoordNum.units c.x ≡ T.CoordNum.measure x) × (T.CoordNum.units c.y ≡ T.CoordNum.measure y)) (λ e. first_refusal (T.CoordNum.refusal x) (T.CoordNum.refusal y) ≡ Some (T.CoordNum.fault e)) }
     {
         let x = T::new(x)?;
         let y = T::new(y)?;
@@ -49,12 +49,13 @@ impl<T: CoordNum> Coord<T> {
 }
 
 impl<T: CoordNum> PartialEq for Coord<T> {
-    ghost equals = { λ a b r. Reflects r (a ≡ b) };
+    ghost eq = { equal_coords T.CoordNum.units };
 
     ghost laws = { Prim.search (comparing, rules) };
 
     fn eq(&self, other: &Coord<T>) -> bool
-        ensures { Reflects result (self.now ≡ other.now) }
+        ensures same { Reflects result (self.now ≡ other.now) }
+        ensures value { result ≡ equal_coords T.CoordNum.units self.now other.now }
     {
         self.x.same(other.x) && self.y.same(other.y)
     }

@@ -3,7 +3,6 @@ ghost use Rattle.plane.specs.Reach.{Within};
 ghost use Rattle.scalar.specs.Faults.{i32_fault, i32_refusal};
 ghost use mathlib.Core.HLevel.{is_prop→PathP};
 ghost use Rattle.scalar.specs.Reaching.{within_prop};
-ghost use Rattle.std.proofs.Common.{rules, arith};
 
 use crate::coord_num::{CoordNum, read_units};
 use crate::fault::I32Fault;
@@ -27,7 +26,7 @@ impl CoordNum for I32Scalar {
 
     ghost fault = { i32_fault };
 
-    ghost within_reach = { first_of (Prim.search rules, Prim.grind (arith, Self.row.coded.inj)) };
+    ghost within_reach = { λ x. x.reach };
 
     ghost equal_units = { λ x y e i. record { value = e i; reach = is_prop→PathP (λ j. Within (e j)) (λ j. within_prop (e j)) x.reach y.reach i } };
 

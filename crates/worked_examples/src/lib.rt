@@ -1,4 +1,6 @@
 // Worked examples of the definitions themselves, shown by one computed check.
+#![tactic(auto)]
+
 ghost use Rattle.std.specs.Prelude.{◌≡◌};
 ghost use Rattle.worked_examples.specs.Examples.{WorkedExamples};
 

@@ -14,14 +14,14 @@ returns-then-not-intersects g c =
     let s = segment g.T.CoordNum.units c.args.line.now in
     let i = c.loop-point.point-index in
     let l : i < length c.args.points.now = omega arith in
-    λ a. c.if-not-intersects.ensures.touches (subst (Touches s) (sym c.from-grid.ensures) (All-get_or (λ p. Touches s (read_point p)) c.args.points.now i origin l a))
+    λ a. c.if-not-intersects.ensures.touches (subst (Touches s) (sym c.from_grid.ensures) (All-get_or (λ p. Touches s (read_point p)) c.args.points.now i origin l a))
 
 pub loop-point-preserved : goal.loop-point-preserved
 loop-point-preserved g c =
     let s = segment g.T.CoordNum.units c.args.line.now in
     let i = c.loop-point.point-index in
     let l : i < length c.args.points.now = omega arith in
-    All-more (λ p. Touches s (read_point p)) c.args.points.now i origin l c.loop-point.invariant (subst (Touches s) c.from-grid.ensures c.if-not-intersects.ensures.touches)
+    All-more (λ p. Touches s (read_point p)) c.args.points.now i origin l c.loop-point.invariant (subst (Touches s) c.from_grid.ensures c.if-not-intersects.ensures.touches)
 
 pub returns : goal.returns
 returns g c =

@@ -16,24 +16,24 @@ Holds ps t = LongerThanZero t → Covered (segments (vertices ps)) t
 left : (v : GridPoint) (qs : List GridPoint) (i : ℕ) → i < length qs → chain v (vertices (drop i qs)) ≡ record { p = v; q = read_point (get_or qs i origin) } ∷ chain (read_point (get_or qs i origin)) (vertices (drop (i + 1) qs))
 left v qs i h = chain_more (λ (ss : List Segment). ss) v qs i h
 
-pub returns-then-not-is-point-or-covered : goal.returns-then-not-is-point-or-covered
-returns-then-not-is-point-or-covered g c =
-    let P = Holds c.args.line-string.now.points.now in
+pub returns-then-not-is_point_or_covered : goal.returns-then-not-is_point_or_covered
+returns-then-not-is_point_or_covered g c =
+    let P = Holds c.args.line_string.now.points.now in
     let e = left (read_point c.loop-point.start) c.args.rest.now c.loop-point.point-index (omega arith) in
-    λ a. c.if-not-is-point-or-covered.ensures (subst P (sym c.from-grid-line.ensures) (subst (All P) e (c.loop-point.invariant.1 a)).0)
+    λ a. c.if-not-is_point_or_covered.ensures (subst P (sym c.from_grid-line.ensures) (subst (All P) e (c.loop-point.invariant.1 a)).0)
 
 pub loop-point-init : goal.loop-point-init
 loop-point-init g c = ((λ h. h), (λ h. h))
 
 pub loop-point-preserved : goal.loop-point-preserved
 loop-point-preserved g c =
-    let P = Holds c.args.line-string.now.points.now in
+    let P = Holds c.args.line_string.now.points.now in
     let e = left (read_point c.loop-point.start) c.args.rest.now c.loop-point.point-index (omega arith) in
-    let p = subst P c.from-grid-line.ensures c.if-not-is-point-or-covered.ensures in
+    let p = subst P c.from_grid-line.ensures c.if-not-is_point_or_covered.ensures in
     ((λ h. c.loop-point.invariant.0 (subst (All P) (sym e) (p, h))), (λ a. (subst (All P) e (c.loop-point.invariant.1 a)).1))
 
 pub returns : goal.returns
 returns g c =
-    let P = Holds c.args.line-string.now.points.now in
+    let P = Holds c.args.line_string.now.points.now in
     let e = chain_ends (λ (ss : List Segment). ss) (read_point c.loop-point.start) c.args.rest.now c.loop-point.point-index (omega arith) in
     c.loop-point.invariant.0 (subst (All P) (sym e) tt)

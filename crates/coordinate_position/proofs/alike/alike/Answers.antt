@@ -7,8 +7,8 @@ returns-then-first-second g c =
     let k = grid_point g.T.CoordNum.units c.args.coord.now in
     let f = g.G.CoordinatePosition.shape c.args.g.now in
     let h = g.H.CoordinatePosition.shape c.args.h.now in
-    let a = c.calculate-coordinate-position-first in
-    let b = c.calculate-coordinate-position-second in
+    let a = c.calculate_coordinate_position-first in
+    let b = c.calculate_coordinate_position-second in
     record { compared = inside_compared k f h a.result b.result a.ensures.value b.ensures.value c.if-first-second.true; exactly = alike_exactly }
 
 pub returns-else-first-second : goal.returns-else-first-second
@@ -16,6 +16,6 @@ returns-else-first-second g c =
     let k = grid_point g.T.CoordNum.units c.args.coord.now in
     let f = g.G.CoordinatePosition.shape c.args.g.now in
     let h = g.H.CoordinatePosition.shape c.args.h.now in
-    let a = c.calculate-coordinate-position-first in
-    let b = c.calculate-coordinate-position-second in
+    let a = c.calculate_coordinate_position-first in
+    let b = c.calculate_coordinate_position-second in
     record { compared = odd_compared k f h a.result b.result a.ensures.value b.ensures.value c.if-first-second.false; exactly = alike_exactly }

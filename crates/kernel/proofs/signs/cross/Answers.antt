@@ -4,20 +4,20 @@ use Rattle.plane.specs.Orient.{AtMostTwoTo61}
 use Rattle.kernel.proofs.Products.{product_fits, cross_fits, at_most_two_to_61}
 use Rattle.kernel.proofs.signs.cross.Goals as goal
 
-pub overflow-mul-result : goal.overflow-mul-result
-overflow-mul-result c =
+pub overflow_mul-result : goal.overflow_mul-result
+overflow_mul-result c =
     let fa : SFits w64 c.args.a = c.ranges.a in
     let fb : SFits w64 c.args.b = c.ranges.b in
     simp to_z-of_z (product_fits c.args.a c.args.b c.requires.0 c.requires.1)
 
-pub overflow-mul-result-2 : goal.overflow-mul-result-2
-overflow-mul-result-2 c =
+pub overflow_mul-result-2 : goal.overflow_mul-result-2
+overflow_mul-result-2 c =
     let fc : SFits w64 c.args.c = c.ranges.c in
     let fe : SFits w64 c.args.e = c.ranges.e in
     simp to_z-of_z (product_fits c.args.c c.args.e c.requires.2 c.requires.3)
 
-pub overflow-sub-result : goal.overflow-sub-result
-overflow-sub-result c =
+pub overflow_sub-result : goal.overflow_sub-result
+overflow_sub-result c =
     let fa : SFits w64 c.args.a = c.ranges.a in
     let fb : SFits w64 c.args.b = c.ranges.b in
     let fc : SFits w64 c.args.c = c.ranges.c in

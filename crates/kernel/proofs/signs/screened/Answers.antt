@@ -12,8 +12,8 @@ sign_held a b s f g e = simp to_z-of_z at e
 
 pub returns-then-left-right : goal.returns-then-left-right
 returns-then-left-right c =
-    let l = sign_held _ _ _ c.ranges.a c.ranges.b c.product-sign-left.ensures in
-    let r = sign_held _ _ _ c.ranges.c c.ranges.e c.product-sign-right.ensures in
+    let l = sign_held _ _ _ c.ranges.a c.ranges.b c.product_sign-left.ensures in
+    let r = sign_held _ _ _ c.ranges.c c.ranges.e c.product_sign-right.ensures in
     record {
       turn = left_turn ((c.args.a *ℤ c.args.b) -ℤ (c.args.c *ℤ c.args.e)) (sign_greater (c.args.a *ℤ c.args.b) (c.args.c *ℤ c.args.e) (omega (arith, ints)));
       bounded = at_most_two_to_61 c.args.a c.args.b c.args.c c.args.e c.requires;
@@ -21,8 +21,8 @@ returns-then-left-right c =
 
 pub returns-then-left-right-2 : goal.returns-then-left-right-2
 returns-then-left-right-2 c =
-    let l = sign_held _ _ _ c.ranges.a c.ranges.b c.product-sign-left.ensures in
-    let r = sign_held _ _ _ c.ranges.c c.ranges.e c.product-sign-right.ensures in
+    let l = sign_held _ _ _ c.ranges.a c.ranges.b c.product_sign-left.ensures in
+    let r = sign_held _ _ _ c.ranges.c c.ranges.e c.product_sign-right.ensures in
     record {
       turn = right_turn ((c.args.a *ℤ c.args.b) -ℤ (c.args.c *ℤ c.args.e)) (sign_less (c.args.a *ℤ c.args.b) (c.args.c *ℤ c.args.e) (omega (arith, ints)));
       bounded = at_most_two_to_61 c.args.a c.args.b c.args.c c.args.e c.requires;
@@ -30,8 +30,8 @@ returns-then-left-right-2 c =
 
 pub returns-then-left-eq0 : goal.returns-then-left-eq0
 returns-then-left-eq0 c =
-    let l = sign_held _ _ _ c.ranges.a c.ranges.b c.product-sign-left.ensures in
-    let r = sign_held _ _ _ c.ranges.c c.ranges.e c.product-sign-right.ensures in
+    let l = sign_held _ _ _ c.ranges.a c.ranges.b c.product_sign-left.ensures in
+    let r = sign_held _ _ _ c.ranges.c c.ranges.e c.product_sign-right.ensures in
     record {
       turn = no_turn ((c.args.a *ℤ c.args.b) -ℤ (c.args.c *ℤ c.args.e)) (omega (arith, ints, zero_sign (c.args.a *ℤ c.args.b) (omega (arith, ints)), zero_sign (c.args.c *ℤ c.args.e) (omega (arith, ints))));
       bounded = at_most_two_to_61 c.args.a c.args.b c.args.c c.args.e c.requires;

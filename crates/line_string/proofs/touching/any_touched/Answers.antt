@@ -20,19 +20,19 @@ pub loop-point-init : goal.loop-point-init
 loop-point-init g c =
     chain_begins (touched (grid_point g.T.CoordNum.units c.args.coord.now)) c.args.points.now c.in-Some.first.now c.in-Some.rest.now c.in-Some.ensures.cases.0
 
-pub returns-then-is-touched : goal.returns-then-is-touched
-returns-then-is-touched g c =
+pub returns-then-is_touched : goal.returns-then-is_touched
+returns-then-is_touched g c =
     let k = grid_point g.T.CoordNum.units c.args.coord.now in
     let v = read_point c.loop-point.start in
     let rest = c.in-Some.rest.now in
-    sym (or_left _ _ (sym c.is-touched.ensures ∙ c.if-is-touched.true)) ∙ sym (chain_more (touched k) v rest c.loop-point.point-index (omega arith)) ∙ c.loop-point.invariant
+    sym (or_left _ _ (sym c.is_touched.ensures ∙ c.if-is_touched.true)) ∙ sym (chain_more (touched k) v rest c.loop-point.point-index (omega arith)) ∙ c.loop-point.invariant
 
 pub loop-point-preserved : goal.loop-point-preserved
 loop-point-preserved g c =
     let k = grid_point g.T.CoordNum.units c.args.coord.now in
     let v = read_point c.loop-point.start in
     let rest = c.in-Some.rest.now in
-    sym (or_rest _ _ (sym c.is-touched.ensures ∙ c.if-is-touched.false)) ∙ sym (chain_more (touched k) v rest c.loop-point.point-index (omega arith)) ∙ c.loop-point.invariant
+    sym (or_rest _ _ (sym c.is_touched.ensures ∙ c.if-is_touched.false)) ∙ sym (chain_more (touched k) v rest c.loop-point.point-index (omega arith)) ∙ c.loop-point.invariant
 
 pub returns : goal.returns
 returns g c =

@@ -5,25 +5,25 @@ use Rattle.plane.proofs.Answers.{reflects_same, reflects_no}
 use Rattle.line_string.proofs.Casts.{read_passed, between_passed}
 use Rattle.line_string.proofs.touching.in_ranges.Goals as goal
 
-pub returns-then-is-between : goal.returns-then-is-between
-returns-then-is-between c =
+pub returns-then-is_between : goal.returns-then-is_between
+returns-then-is_between c =
     let a = c.args.start in
     let b = c.args.end in
     let fx : SFits w32 c.args.at.x = search rules in
     let fy : SFits w32 c.args.at.y = search rules in
-    let p = read_passed a.x c.read-units.result (search rules) (search rules) c.read-units.ensures.value in
-    let q = read_passed b.x c.read-units-2.result (search rules) (search rules) c.read-units-2.ensures.value in
-    let r = read_passed a.y c.read-units-then-is-between.result (search rules) (search rules) c.read-units-then-is-between.ensures.value in
-    let s = read_passed b.y c.read-units-then-is-between-2.result (search rules) (search rules) c.read-units-then-is-between-2.ensures.value in
-    let x : Between c.args.at.x (read a.x) (read b.x) = between_passed true c.args.at.x a.x b.x c.read-units.result c.read-units-2.result fx p q c.if-is-between.ensures in
-    reflects_same c.is-between-then-is-between.result (λ y. (x, y)) (λ h. h.1)
-    (between_passed c.is-between-then-is-between.result c.args.at.y a.y b.y c.read-units-then-is-between.result c.read-units-then-is-between-2.result fy r s c.is-between-then-is-between.ensures)
+    let p = read_passed a.x c.read_units.result (search rules) (search rules) c.read_units.ensures.value in
+    let q = read_passed b.x c.read_units-2.result (search rules) (search rules) c.read_units-2.ensures.value in
+    let r = read_passed a.y c.read_units-then-is_between.result (search rules) (search rules) c.read_units-then-is_between.ensures.value in
+    let s = read_passed b.y c.read_units-then-is_between-2.result (search rules) (search rules) c.read_units-then-is_between-2.ensures.value in
+    let x : Between c.args.at.x (read a.x) (read b.x) = between_passed true c.args.at.x a.x b.x c.read_units.result c.read_units-2.result fx p q c.if-is_between.ensures in
+    reflects_same c.is_between-then-is_between.result (λ y. (x, y)) (λ h. h.1)
+    (between_passed c.is_between-then-is_between.result c.args.at.y a.y b.y c.read_units-then-is_between.result c.read_units-then-is_between-2.result fy r s c.is_between-then-is_between.ensures)
 
-pub returns-else-is-between : goal.returns-else-is-between
-returns-else-is-between c =
+pub returns-else-is_between : goal.returns-else-is_between
+returns-else-is_between c =
     let a = c.args.start in
     let b = c.args.end in
     let fx : SFits w32 c.args.at.x = search rules in
-    let p = read_passed a.x c.read-units.result (search rules) (search rules) c.read-units.ensures.value in
-    let q = read_passed b.x c.read-units-2.result (search rules) (search rules) c.read-units-2.ensures.value in
-    reflects_no c.is-between.result c.if-is-between.false (λ h. between_passed false c.args.at.x a.x b.x c.read-units.result c.read-units-2.result fx p q c.if-is-between.ensures h.0)
+    let p = read_passed a.x c.read_units.result (search rules) (search rules) c.read_units.ensures.value in
+    let q = read_passed b.x c.read_units-2.result (search rules) (search rules) c.read_units-2.ensures.value in
+    reflects_no c.is_between.result c.if-is_between.false (λ h. between_passed false c.args.at.x a.x b.x c.read_units.result c.read_units-2.result fx p q c.if-is_between.ensures h.0)

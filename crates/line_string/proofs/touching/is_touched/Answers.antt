@@ -9,12 +9,12 @@ use Rattle.polyline.proofs.Tests.{one_answer, touches_reflects}
 use Rattle.scalar.specs.Coords.{grid_point}
 use Rattle.line_string.proofs.touching.is_touched.Goals as goal
 
-pub returns-then-not-in-ranges : goal.returns-then-not-in-ranges
-returns-then-not-in-ranges g c =
+pub returns-then-not-in_ranges : goal.returns-then-not-in_ranges
+returns-then-not-in_ranges g c =
     let s : Segment = record { p = read_point c.args.start; q = read_point c.args.end } in
     let k = grid_point g.T.CoordNum.units c.args.coord.now in
     one_answer (Touches s k) false (touches s k)
-    (λ o. c.if-not-in-ranges.ensures (subst (λ (p : GridPoint). Ranges s p.x p.y) (sym c.to-grid.ensures.value) (on_ranges s k.x k.y o)))
+    (λ o. c.if-not-in_ranges.ensures (subst (λ (p : GridPoint). Ranges s p.x p.y) (sym c.to_grid.ensures.value) (on_ranges s k.x k.y o)))
     (touches_reflects s k)
 
 pub returns : goal.returns
@@ -22,4 +22,4 @@ returns g c =
     let s : Segment = record { p = read_point c.args.start; q = read_point c.args.end } in
     let k = grid_point g.T.CoordNum.units c.args.coord.now in
     let r = c.intersects.result in
-    one_answer (Touches s k) r (touches s k) (subst (λ (t : Segment). Reflects r (Touches t k)) c.from-grid.ensures c.intersects.ensures.touches) (touches_reflects s k)
+    one_answer (Touches s k) r (touches s k) (subst (λ (t : Segment). Reflects r (Touches t k)) c.from_grid.ensures c.intersects.ensures.touches) (touches_reflects s k)

@@ -12,38 +12,38 @@ use Rattle.line_string.proofs.trimming.covers_longer.Goals.{else-next-left-via-t
 pub loop-left-init : goal.loop-left-init
 loop-left-init g c =
     let s = segment g.T.CoordNum.units c.args.line.now in
-    let p = reads_itself c.to-grid.result c.to-grid.ensures.within ∙ c.to-grid.ensures.value in
-    let q = reads_itself c.to-grid-2.result c.to-grid-2.ensures.within ∙ c.to-grid-2.ensures.value in
-    trimming_begins (segments (vertices c.args.points.now)) s c.span-between-left.result c.requires
-    (c.span-between-left.ensures ∙ ap₂ (λ (a b : GridPoint). span c.is-line-vertical-along-y.result (record { p = a; q = b })) p q ∙ ap (λ (v : Bool). span v s) c.is-line-vertical-along-y.ensures)
+    let p = reads_itself c.to_grid.result c.to_grid.ensures.within ∙ c.to_grid.ensures.value in
+    let q = reads_itself c.to_grid-2.result c.to_grid-2.ensures.within ∙ c.to_grid-2.ensures.value in
+    trimming_begins (segments (vertices c.args.points.now)) s c.span_between-left.result c.requires
+    (c.span_between-left.ensures ∙ ap₂ (λ (a b : GridPoint). span c.is_line_vertical-along_y.result (record { p = a; q = b })) p q ∙ ap (λ (v : Bool). span v s) c.is_line_vertical-along_y.ensures)
 
 pub returns-then-next : goal.returns-then-next
 returns-then-next g c =
     let ts = segments (vertices c.args.points.now) in
     let s = segment g.T.CoordNum.units c.args.line.now in
-    let f0 : SFits w32 c.trim-round-next.result.0 = search rules in
-    let f1 : SFits w32 c.trim-round-next.result.1 = search rules in
-    trimming_done ts s c.trim-round-next.result (trimming_next ts s c.loop-left.left c.trim-round-next.result c.requires c.loop-left.invariant.0 c.trim-round-next.ensures) (omega (arith, ints))
+    let f0 : SFits w32 c.trim_round-next.result.0 = search rules in
+    let f1 : SFits w32 c.trim_round-next.result.1 = search rules in
+    trimming_done ts s c.trim_round-next.result (trimming_next ts s c.loop-left.left c.trim_round-next.result c.requires c.loop-left.invariant.0 c.trim_round-next.ensures) (omega (arith, ints))
 
 pub returns-then-left-next : goal.returns-then-left-next
 returns-then-left-next g c =
     let ts = segments (vertices c.args.points.now) in
     let s = segment g.T.CoordNum.units c.args.line.now in
-    let f0 : SFits w32 c.trim-round-next.result.0 = search rules in
-    let f1 : SFits w32 c.trim-round-next.result.1 = search rules in
+    let f0 : SFits w32 c.trim_round-next.result.0 = search rules in
+    let f1 : SFits w32 c.trim_round-next.result.1 = search rules in
     let f2 : SFits w32 c.loop-left.left.0 = search rules in
     let f3 : SFits w32 c.loop-left.left.1 = search rules in
-    trimming_stuck ts s c.loop-left.left c.trim-round-next.result c.requires c.loop-left.invariant.0 c.loop-left.invariant.1 c.trim-round-next.ensures (omega (arith, ints)) (omega (arith, ints))
+    trimming_stuck ts s c.loop-left.left c.trim_round-next.result c.requires c.loop-left.invariant.0 c.loop-left.invariant.1 c.trim_round-next.ensures (omega (arith, ints)) (omega (arith, ints))
 
 pub loop-left-smaller : goal.loop-left-smaller
 loop-left-smaller g c =
     let ts = segments (vertices c.args.points.now) in
     let s = segment g.T.CoordNum.units c.args.line.now in
-    let f0 : SFits w32 c.trim-round-next.result.0 = search rules in
-    let f1 : SFits w32 c.trim-round-next.result.1 = search rules in
+    let f0 : SFits w32 c.trim_round-next.result.0 = search rules in
+    let f1 : SFits w32 c.trim_round-next.result.1 = search rules in
     let f2 : SFits w32 c.loop-left.left.0 = search rules in
     let f3 : SFits w32 c.loop-left.left.1 = search rules in
-    trimming_falls ts s c.loop-left.left c.trim-round-next.result c.loop-left.invariant.0.right c.trim-round-next.ensures (omega (arith, ints))
+    trimming_falls ts s c.loop-left.left c.trim_round-next.result c.loop-left.invariant.0.right c.trim_round-next.ensures (omega (arith, ints))
     (elim c.else-next-left.branch [
       | else-next-left-via-then-next-left+else-left-next w ↦ inr (omega (arith, ints, w.if-left-next.false))
       | else-next-left-via-else-next-left w ↦ inl (omega (arith, ints, w.if-next-left.false))
@@ -53,6 +53,6 @@ pub loop-left-preserved : goal.loop-left-preserved
 loop-left-preserved g c =
     let ts = segments (vertices c.args.points.now) in
     let s = segment g.T.CoordNum.units c.args.line.now in
-    let f0 : SFits w32 c.trim-round-next.result.0 = search rules in
-    let f1 : SFits w32 c.trim-round-next.result.1 = search rules in
-    (trimming_next ts s c.loop-left.left c.trim-round-next.result c.requires c.loop-left.invariant.0 c.trim-round-next.ensures, omega (arith, ints))
+    let f0 : SFits w32 c.trim_round-next.result.0 = search rules in
+    let f1 : SFits w32 c.trim_round-next.result.1 = search rules in
+    (trimming_next ts s c.loop-left.left c.trim_round-next.result c.requires c.loop-left.invariant.0 c.trim_round-next.ensures, omega (arith, ints))

@@ -17,7 +17,7 @@ returns g c =
     let q = grid_point u c.args.line.now.end in
     let v = read_point c.args.vertex in
     let r = c.eq.result in
-    let t : c.orient2d.result ≡ orientation (det p q v) = c.orient2d.ensures.turn ∙ ap (λ (k : GridPoint). orientation (det p q k)) c.from-grid.ensures in
+    let t : c.orient2d.result ≡ orientation (det p q v) = c.orient2d.ensures.turn ∙ ap (λ (k : GridPoint). orientation (det p q k)) c.from_grid.ensures in
     one_answer (det p q v ≡ pos 0) r (collinear p q v)
     (reflects_same r (λ e. collinear_zero (det p q v) (sym t ∙ e)) (λ z. t ∙ sym (no_turn (det p q v) z)) (eq_reflects c.orient2d.result Collinear r c.eq.ensures))
     (zero_reflects (det p q v))

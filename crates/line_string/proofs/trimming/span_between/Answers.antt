@@ -5,16 +5,16 @@ use Rattle.polyline.specs.Trimming.{ordered, span}
 use Rattle.line_string.proofs.Casts.{read_passed}
 use Rattle.line_string.proofs.trimming.span_between.Goals as goal
 
-pub returns-then-along-y : goal.returns-then-along-y
-returns-then-along-y c =
+pub returns-then-along_y : goal.returns-then-along_y
+returns-then-along_y c =
     let s : Segment = record { p = read_point c.args.start; q = read_point c.args.end } in
-    let p = read_passed c.args.start.y c.read-units.result (search rules) (search rules) c.read-units.ensures.value in
-    let q = read_passed c.args.end.y c.read-units-then-along-y.result (search rules) (search rules) c.read-units-then-along-y.ensures.value in
-    c.in-order.ensures ∙ ap₂ ordered p q ∙ ap (λ (v : Bool). span v s) (sym c.if-along-y.true)
+    let p = read_passed c.args.start.y c.read_units.result (search rules) (search rules) c.read_units.ensures.value in
+    let q = read_passed c.args.end.y c.read_units-then-along_y.result (search rules) (search rules) c.read_units-then-along_y.ensures.value in
+    c.in_order.ensures ∙ ap₂ ordered p q ∙ ap (λ (v : Bool). span v s) (sym c.if-along_y.true)
 
-pub returns-else-along-y : goal.returns-else-along-y
-returns-else-along-y c =
+pub returns-else-along_y : goal.returns-else-along_y
+returns-else-along_y c =
     let s : Segment = record { p = read_point c.args.start; q = read_point c.args.end } in
-    let p = read_passed c.args.start.x c.read-units-else-along-y.result (search rules) (search rules) c.read-units-else-along-y.ensures.value in
-    let q = read_passed c.args.end.x c.read-units-else-along-y-2.result (search rules) (search rules) c.read-units-else-along-y-2.ensures.value in
-    c.in-order-else-along-y.ensures ∙ ap₂ ordered p q ∙ ap (λ (v : Bool). span v s) (sym c.if-along-y.false)
+    let p = read_passed c.args.start.x c.read_units-else-along_y.result (search rules) (search rules) c.read_units-else-along_y.ensures.value in
+    let q = read_passed c.args.end.x c.read_units-else-along_y-2.result (search rules) (search rules) c.read_units-else-along_y-2.ensures.value in
+    c.in_order-else-along_y.ensures ∙ ap₂ ordered p q ∙ ap (λ (v : Bool). span v s) (sym c.if-along_y.false)

@@ -14,14 +14,14 @@ pub loop-point-init : goal.loop-point-init
 loop-point-init g c =
     chain_begins (round (segment g.T.CoordNum.units c.args.line.now) c.args.stretch) c.args.points.now c.in-Some.first.now c.in-Some.rest.now c.in-Some.ensures.cases.0
 
-pub returns-then-is-gone : goal.returns-then-is-gone
-returns-then-is-gone g c =
+pub returns-then-is_gone : goal.returns-then-is_gone
+returns-then-is_gone g c =
     let s = segment g.T.CoordNum.units c.args.line.now in
     let rest = c.in-Some.rest.now in
     let i = c.loop-point.point-index in
     let p = get_or rest i origin in
-    sym (gone_stays s (chain (read_point p) (vertices (drop (i + 1) rest))) c.trim-by-segment-left.result c.if-is-gone.ensures)
-    ∙ ap (λ (l : ℤ × ℤ). round s l (chain (read_point p) (vertices (drop (i + 1) rest)))) c.trim-by-segment-left.ensures
+    sym (gone_stays s (chain (read_point p) (vertices (drop (i + 1) rest))) c.trim_by_segment-left.result c.if-is_gone.ensures)
+    ∙ ap (λ (l : ℤ × ℤ). round s l (chain (read_point p) (vertices (drop (i + 1) rest)))) c.trim_by_segment-left.ensures
     ∙ sym (chain_more (round s c.loop-point.left) (read_point c.loop-point.start) rest i (omega arith)) ∙ c.loop-point.invariant
 
 pub loop-point-preserved : goal.loop-point-preserved
@@ -30,7 +30,7 @@ loop-point-preserved g c =
     let rest = c.in-Some.rest.now in
     let i = c.loop-point.point-index in
     let p = get_or rest i origin in
-    ap (λ (l : ℤ × ℤ). round s l (chain (read_point p) (vertices (drop (i + 1) rest)))) c.trim-by-segment-left.ensures
+    ap (λ (l : ℤ × ℤ). round s l (chain (read_point p) (vertices (drop (i + 1) rest)))) c.trim_by_segment-left.ensures
     ∙ sym (chain_more (round s c.loop-point.left) (read_point c.loop-point.start) rest i (omega arith)) ∙ c.loop-point.invariant
 
 pub returns : goal.returns

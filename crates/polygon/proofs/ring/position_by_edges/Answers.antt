@@ -43,7 +43,7 @@ returns-in-Touched g c =
     let u = c.loop-point.upward in
     let d = c.loop-point.downward in
     count_touched k (edge v rest i) (after rest i) all u d (counted_next k v u d i rest all c.loop-point.invariant.0 (omega arith))
-    (subst (λ (k : GridPoint). Passes Touched (edge v rest i) k) c.to-grid-at.ensures.value c.in-Touched.ensures)
+    (subst (λ (k : GridPoint). Passes Touched (edge v rest i) k) c.to_grid-at.ensures.value c.in-Touched.ensures)
 
 pub loop-point-preserved : goal.loop-point-preserved
 loop-point-preserved g c =
@@ -55,9 +55,9 @@ loop-point-preserved g c =
     let u = c.loop-point.upward in
     let d = c.loop-point.downward in
     let e = edge v rest i in
-    let at = c.to-grid-at.ensures.value in
+    let at = c.to_grid-at.ensures.value in
     let n : Counted k u d (e ∷ after rest i) all = counted_next k v u d i rest all c.loop-point.invariant.0 (omega arith) in
-    elim c.match-pass-edge.branch [
+    elim c.match-pass_edge.branch [
       | in-Upward w ↦ (counted_as k (after rest i) all (u + 1) d w.upward-is w.downward-is (count_upward k e (after rest i) all u d n (subst (λ (k : GridPoint). Passes Upward e k) at w.in-Upward.ensures)), omega arith, omega arith)
       | in-Downward w ↦ (counted_as k (after rest i) all u (d + 1) w.upward-is w.downward-is (count_downward k e (after rest i) all u d n (subst (λ (k : GridPoint). Passes Downward e k) at w.in-Downward.ensures)), omega arith, omega arith)
       | in-Clear w ↦ (counted_as k (after rest i) all u d w.upward-is w.downward-is (count_clear k e (after rest i) all u d n (subst (λ (k : GridPoint). Passes Clear e k) at w.in-Clear.ensures)), omega arith, omega arith)

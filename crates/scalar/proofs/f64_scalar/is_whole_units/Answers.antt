@@ -10,4 +10,4 @@ returns c =
     let x = c.args.x in
     ap (eq (mul binary64 x (of_bits binary64 4643211215818981376))) c.trunc.ensures
     ∙ (λ i. eq (mul binary64 x (k256_is i)) (trunc binary64 (mul binary64 x (k256_is i))))
-    ∙ whole_test x (yes (fits binary64 x) c.well-formed.0.1) c.requires
+    ∙ whole_test x (yes (fits binary64 x) c.well_formed.0.1) c.requires

@@ -18,29 +18,29 @@ by_points r s vs h = reflects_same r (segment_contains s vs) (contains_segment s
 pub returns-in-default : goal.returns-in-default
 returns-in-default g c =
     let s = segment g.T.CoordNum.units c.args.self.now in
-    let ps = c.args.line-string.now.points.now in
+    let ps = c.args.line_string.now.points.now in
     let h = none_in_segment ps s c.in-default.ensures.cases in
     record { points = by_points false s (vertices ps) h; rule = h }
 
-pub returns-then-not-all-touch : goal.returns-then-not-all-touch
-returns-then-not-all-touch g c =
+pub returns-then-not-all_touch : goal.returns-then-not-all_touch
+returns-then-not-all_touch g c =
     let s = segment g.T.CoordNum.units c.args.self.now in
-    let ps = c.args.line-string.now.points.now in
-    let h : Reflects false (SegmentContainsString s (vertices ps)) = λ k. c.if-not-all-touch.ensures ((all_vertices (Touches s) ps).1 k.touch) in
+    let ps = c.args.line_string.now.points.now in
+    let h : Reflects false (SegmentContainsString s (vertices ps)) = λ k. c.if-not-all_touch.ensures ((all_vertices (Touches s) ps).1 k.touch) in
     record { points = by_points false s (vertices ps) h; rule = h }
 
-pub returns-then-all-equal : goal.returns-then-all-equal
-returns-then-all-equal g c =
+pub returns-then-all_equal : goal.returns-then-all_equal
+returns-then-all_equal g c =
     let s = segment g.T.CoordNum.units c.args.self.now in
-    let ps = c.args.line-string.now.points.now in
+    let ps = c.args.line_string.now.points.now in
     let r = c.contains.result in
-    let i = equal_in_segment ps c.in-Some.first.now _ c.in-Some.ensures.cases.0 s c.if-not-all-touch.ensures c.if-all-equal.ensures in
-    let h = reflects_same r i.0 i.1 (subst (λ (v : GridPoint). Reflects r (Interior s v.x v.y 1)) c.from-grid.ensures c.contains.ensures.rule) in
+    let i = equal_in_segment ps c.in-Some.first.now _ c.in-Some.ensures.cases.0 s c.if-not-all_touch.ensures c.if-all_equal.ensures in
+    let h = reflects_same r i.0 i.1 (subst (λ (v : GridPoint). Reflects r (Interior s v.x v.y 1)) c.from_grid.ensures c.contains.ensures.rule) in
     record { points = by_points r s (vertices ps) h; rule = h }
 
-pub returns-else-all-equal : goal.returns-else-all-equal
-returns-else-all-equal g c =
+pub returns-else-all_equal : goal.returns-else-all_equal
+returns-else-all_equal g c =
     let s = segment g.T.CoordNum.units c.args.self.now in
-    let ps = c.args.line-string.now.points.now in
-    let h = unequal_in_segment ps c.in-Some.first.now _ c.in-Some.ensures.cases.0 s c.if-not-all-touch.ensures c.if-all-equal.ensures in
+    let ps = c.args.line_string.now.points.now in
+    let h = unequal_in_segment ps c.in-Some.first.now _ c.in-Some.ensures.cases.0 s c.if-not-all_touch.ensures c.if-all_equal.ensures in
     record { points = by_points true s (vertices ps) h; rule = h }

@@ -19,20 +19,20 @@ returns-in-default g c =
     let h = none_in_string ps vs c.in-default.ensures.cases in
     record { points = by_points false vs (vertices ps) h; rule = h }
 
-pub returns-then-all-equal : goal.returns-then-all-equal
-returns-then-all-equal g c =
+pub returns-then-all_equal : goal.returns-then-all_equal
+returns-then-all_equal g c =
     let vs = vertices c.args.self.now.points.now in
     let ps = c.args.rhs.now.points.now in
     let r = c.contains.result in
-    let i = equal_in_string ps c.in-Some.first.now c.in-Some.rest.now c.in-Some.ensures.cases.0 vs c.if-all-equal.ensures in
-    let h = reflects_same r i.0 i.1 (subst (λ (v : GridPoint). Reflects r (StringInterior vs v.x v.y 1)) c.from-grid.ensures c.contains.ensures.rule) in
+    let i = equal_in_string ps c.in-Some.first.now c.in-Some.rest.now c.in-Some.ensures.cases.0 vs c.if-all_equal.ensures in
+    let h = reflects_same r i.0 i.1 (subst (λ (v : GridPoint). Reflects r (StringInterior vs v.x v.y 1)) c.from_grid.ensures c.contains.ensures.rule) in
     record { points = by_points r vs (vertices ps) h; rule = h }
 
 pub returns : goal.returns
 returns g c =
     let vs = vertices c.args.self.now.points.now in
     let ps = c.args.rhs.now.points.now in
-    let r = c.covers-longer-lines.result in
-    let i = unequal_in_string ps c.in-Some.first.now c.in-Some.rest.now c.in-Some.ensures.cases.0 vs c.if-all-equal.ensures in
-    let h = reflects_same r i.0 i.1 c.covers-longer-lines.ensures in
+    let r = c.covers_longer_lines.result in
+    let i = unequal_in_string ps c.in-Some.first.now c.in-Some.rest.now c.in-Some.ensures.cases.0 vs c.if-all_equal.ensures in
+    let h = reflects_same r i.0 i.1 c.covers_longer_lines.ensures in
     record { points = by_points r vs (vertices ps) h; rule = h }

@@ -12,7 +12,7 @@ returns g c =
     let u = g.T.CoordNum.units in
     let b = box u c.args.self.now in
     let k = grid_point u c.args.coord.now in
-    let r = c.strictly-within.result in
+    let r = c.strictly_within.result in
     let e = corners_are b _ _ c.min.ensures c.max.ensures in
-    let h = strictly_held_reflects r b k (subst (λ (q : Box). Reflects r (StrictlyHeld q k)) e c.strictly-within.ensures) in
+    let h = strictly_held_reflects r b k (subst (λ (q : Box). Reflects r (StrictlyHeld q k)) e c.strictly_within.ensures) in
     record { points = box_coord_contains r b k h; rule = h }

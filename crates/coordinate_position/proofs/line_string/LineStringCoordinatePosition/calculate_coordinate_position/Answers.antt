@@ -25,9 +25,9 @@ pub returns-in-len1 : goal.returns-in-len1
 returns-in-len1 g c =
     let vs = vertices c.args.self.now.points.now in
     let k = grid_point g.T.CoordNum.units c.args.coord.now in
-    let m = c.calculate-coordinate-position.result in
+    let m = c.calculate_coordinate_position.result in
     let v : m ≡ said k vs =
-    c.calculate-coordinate-position.ensures.value ∙ ap (λ (p : GridPoint). membership (coord_shape p) k) c.from-grid.ensures ∙ ap (said k) (sym (one_vertex c.args.self.now.points.now (search rules))) in
+    c.calculate_coordinate_position.ensures.value ∙ ap (λ (p : GridPoint). membership (coord_shape p) k) c.from_grid.ensures ∙ ap (said k) (sym (one_vertex c.args.self.now.points.now (search rules))) in
     let w = string_words vs k m v in
     record { value = v; inside = w.0; boundary = w.1 }
 
@@ -35,9 +35,9 @@ pub returns-in-len2 : goal.returns-in-len2
 returns-in-len2 g c =
     let vs = vertices c.args.self.now.points.now in
     let k = grid_point g.T.CoordNum.units c.args.coord.now in
-    let m = c.calculate-coordinate-position-in-len2.result in
+    let m = c.calculate_coordinate_position-in-len2.result in
     let v : m ≡ said k vs =
-    c.calculate-coordinate-position-in-len2.ensures.value ∙ ap (λ (s : Segment). membership (line_shape s) k) c.from-grid-in-len2.ensures ∙ ap (said k) (sym (two_vertices c.args.self.now.points.now (search rules))) in
+    c.calculate_coordinate_position-in-len2.ensures.value ∙ ap (λ (s : Segment). membership (line_shape s) k) c.from_grid-in-len2.ensures ∙ ap (said k) (sym (two_vertices c.args.self.now.points.now (search rules))) in
     let w = string_words vs k m v in
     record { value = v; inside = w.0; boundary = w.1 }
 
@@ -45,7 +45,7 @@ pub returns-in-default : goal.returns-in-default
 returns-in-default g c =
     let vs = vertices c.args.self.now.points.now in
     let k = grid_point g.T.CoordNum.units c.args.coord.now in
-    let m = c.position-among-segments.result in
+    let m = c.position_among_segments.result in
     let i = several_segments c.args.self.now.points.now k (search rules) in
-    let h = reflects_same m.inside i.0 i.1 c.position-among-segments.ensures.inside in
-    record { value = string_membership vs k m h c.position-among-segments.ensures.boundary; inside = h; boundary = c.position-among-segments.ensures.boundary }
+    let h = reflects_same m.inside i.0 i.1 c.position_among_segments.ensures.inside in
+    record { value = string_membership vs k m h c.position_among_segments.ensures.boundary; inside = h; boundary = c.position_among_segments.ensures.boundary }

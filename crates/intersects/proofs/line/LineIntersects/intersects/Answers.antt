@@ -17,10 +17,10 @@ returns-then-eq g c =
 pub returns-then-ne : goal.returns-then-ne
 returns-then-ne g c =
     let u = g.T.CoordNum.units in
-    let o11 = c.orient2d-check-1-1.ensures.turn in
-    let o12 = c.orient2d-check-1-2.ensures.turn in
-    let o21 = c.orient2d-check-2-1.ensures.turn in
-    let o22 = c.orient2d-check-2-2.ensures.turn in
+    let o11 = c.orient2d-check_1_1.ensures.turn in
+    let o12 = c.orient2d-check_1_2.ensures.turn in
+    let o21 = c.orient2d-check_2_1.ensures.turn in
+    let o22 = c.orient2d-check_2_2.ensures.turn in
     record {
       points =
           cross_reflects c.ne-then-ne.result (segment u c.args.self.now) (segment u c.args.line.now)
@@ -31,20 +31,20 @@ returns-then-ne g c =
 pub returns-then-eq-2 : goal.returns-then-eq-2
 returns-then-eq-2 g c =
     let u = g.T.CoordNum.units in
-    let o11 = c.orient2d-check-1-1.ensures.turn in
-    let o12 = c.orient2d-check-1-2.ensures.turn in
+    let o11 = c.orient2d-check_1_1.ensures.turn in
+    let o12 = c.orient2d-check_1_2.ensures.turn in
     record {
       points =
-          collinear_reflects c.overlap-along.result (segment u c.args.self.now) (segment u c.args.line.now)
+          collinear_reflects c.overlap_along.result (segment u c.args.self.now) (segment u c.args.line.now)
           (λ e. c.if-eq.ensures (same_coord u g.met.T.CoordNum.equal_units _ _ e))
-          (sym o11 ∙ ne_left _ _ c.if-ne.ensures ∙ o12) (sym o11 ∙ c.if-eq-2.ensures) c.overlap-along.ensures;
+          (sym o11 ∙ ne_left _ _ c.if-ne.ensures ∙ o12) (sym o11 ∙ c.if-eq-2.ensures) c.overlap_along.ensures;
     }
 
 pub returns-else-eq-2 : goal.returns-else-eq-2
 returns-else-eq-2 g c =
     let u = g.T.CoordNum.units in
-    let o11 = c.orient2d-check-1-1.ensures.turn in
-    let o12 = c.orient2d-check-1-2.ensures.turn in
+    let o11 = c.orient2d-check_1_1.ensures.turn in
+    let o12 = c.orient2d-check_1_2.ensures.turn in
     record {
       points =
           same_side_misses (segment u c.args.self.now) (segment u c.args.line.now) (sym o11 ∙ ne_left _ _ c.if-ne.ensures ∙ o12) (λ e. c.if-eq-2.ensures (o11 ∙ e));

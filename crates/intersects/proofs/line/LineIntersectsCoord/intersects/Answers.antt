@@ -10,8 +10,8 @@ returns-then-eq g c =
     let u = g.T.CoordNum.units in
     let s = segment u c.args.self.now in
     let k = grid_point u c.args.rhs.now in
-    let r = c.point-in-rect.result in
-    let h = touch_reflects r s k (sym c.orient2d.ensures.turn ∙ c.if-eq.ensures) c.point-in-rect.ensures in
+    let r = c.point_in_rect.result in
+    let h = touch_reflects r s k (sym c.orient2d.ensures.turn ∙ c.if-eq.ensures) c.point_in_rect.ensures in
     record { points = reflects_same r (touch_common s k) (common_touch s k) h; touches = h }
 
 pub returns-else-eq : goal.returns-else-eq

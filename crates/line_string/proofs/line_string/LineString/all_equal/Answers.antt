@@ -20,9 +20,9 @@ returns-then-ne g c =
     let rest = c.in-Some.rest.now in
     let i = c.loop-point.point-index in
     let h : i < length rest = omega arith in
-    λ a. unequal c.from-grid.result c.from-grid-first.result c.if-ne.ensures
+    λ a. unequal c.from_grid.result c.from_grid-first.result c.if-ne.ensures
     (same_coord u g.met.T.CoordNum.equal_units _ _
-    (c.from-grid.ensures ∙ sym (All-get_or (λ q. read_point p ≡ read_point q) rest i origin h ((equal_to_first c.args.self.now.points.now p rest c.in-Some.ensures.cases.0).1 a)) ∙ sym c.from-grid-first.ensures))
+    (c.from_grid.ensures ∙ sym (All-get_or (λ q. read_point p ≡ read_point q) rest i origin h ((equal_to_first c.args.self.now.points.now p rest c.in-Some.ensures.cases.0).1 a)) ∙ sym c.from_grid-first.ensures))
 
 pub loop-point-preserved : goal.loop-point-preserved
 loop-point-preserved g c =
@@ -30,8 +30,8 @@ loop-point-preserved g c =
     let rest = c.in-Some.rest.now in
     let i = c.loop-point.point-index in
     let h : i < length rest = omega arith in
-    All-more (λ q. grid_point u c.from-grid-first.result ≡ read_point q) rest i origin h c.loop-point.invariant
-    (ap (grid_point u) (sym (not_unequal c.from-grid.result c.from-grid-first.result c.if-ne.ensures)) ∙ c.from-grid.ensures)
+    All-more (λ q. grid_point u c.from_grid-first.result ≡ read_point q) rest i origin h c.loop-point.invariant
+    (ap (grid_point u) (sym (not_unequal c.from_grid.result c.from_grid-first.result c.if-ne.ensures)) ∙ c.from_grid.ensures)
 
 pub returns : goal.returns
 returns g c =
@@ -39,5 +39,5 @@ returns g c =
     let p = c.in-Some.first.now in
     let rest = c.in-Some.rest.now in
     (equal_to_first c.args.self.now.points.now p rest c.in-Some.ensures.cases.0).0
-    (subst (λ (v : GridPoint). All (λ q. v ≡ read_point q) rest) c.from-grid-first.ensures
-    (subst (λ (qs : List GridPoint). All (λ q. grid_point u c.from-grid-first.result ≡ read_point q) qs) (take_all c.loop-point.point-index rest (omega arith)) c.loop-point.invariant))
+    (subst (λ (v : GridPoint). All (λ q. v ≡ read_point q) rest) c.from_grid-first.ensures
+    (subst (λ (qs : List GridPoint). All (λ q. grid_point u c.from_grid-first.result ≡ read_point q) qs) (take_all c.loop-point.point-index rest (omega arith)) c.loop-point.invariant))

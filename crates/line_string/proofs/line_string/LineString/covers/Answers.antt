@@ -14,5 +14,5 @@ returns-then-eq g c =
     let i = point_covered (segments (vertices c.args.self.now.points.now)) t (ap (grid_point u) c.if-eq.ensures) in
     reflects_same c.touches.result i.0 i.1 c.touches.ensures
 
-pub covers-longer-requires : goal.covers-longer-requires
-covers-longer-requires g c = λ e. c.if-eq.ensures (same_coord g.T.CoordNum.units g.met.T.CoordNum.equal_units _ _ e)
+pub covers_longer-requires : goal.covers_longer-requires
+covers_longer-requires g c = λ e. c.if-eq.ensures (same_coord g.T.CoordNum.units g.met.T.CoordNum.equal_units _ _ e)

@@ -12,6 +12,6 @@ returns-in-len2-up g c =
     let u = g.T.CoordNum.units in
     let i = closed_by_ends c.args.self.now.points.now (search rules) in
     reflects_same c.eq.result
-    (λ e. i.0 (sym c.from-grid.ensures ∙ e ∙ c.from-grid-in-len2-up.ensures))
-    (λ e. c.from-grid.ensures ∙ i.1 e ∙ sym c.from-grid-in-len2-up.ensures)
-    (same_grid u g.met.T.CoordNum.equal_units c.eq.result c.from-grid.result c.from-grid-in-len2-up.result c.eq.ensures)
+    (λ e. i.0 (sym c.from_grid.ensures ∙ e ∙ c.from_grid-in-len2-up.ensures))
+    (λ e. c.from_grid.ensures ∙ i.1 e ∙ sym c.from_grid-in-len2-up.ensures)
+    (same_grid u g.met.T.CoordNum.equal_units c.eq.result c.from_grid.result c.from_grid-in-len2-up.result c.eq.ensures)

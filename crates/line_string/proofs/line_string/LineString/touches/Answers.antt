@@ -10,4 +10,4 @@ pub returns : goal.returns
 returns g c =
     let k = grid_point g.T.CoordNum.units c.args.coord.now in
     let ss = segments (vertices c.args.self.now.points.now) in
-    subst (λ (r : Bool). Reflects r (OnAny ss k.x k.y 1)) (sym c.any-touched.ensures) (touches_any_reflects ss k)
+    subst (λ (r : Bool). Reflects r (OnAny ss k.x k.y 1)) (sym c.any_touched.ensures) (touches_any_reflects ss k)

@@ -14,6 +14,6 @@ returns g c =
     let ps = c.args.self.now.points.now in
     let e = ap (λ (qs : List GridPoint). segments (vertices qs)) (sym (take_rest ps 1)) in
     record {
-      steps = first_segment ps (search rules) ∙ ap₂ (λ (s : Segment) (ss : List Segment). s ∷ ss) (sym c.from-grid-line.ensures) e;
+      steps = first_segment ps (search rules) ∙ ap₂ (λ (s : Segment) (ss : List Segment). s ∷ ss) (sym c.from_grid-line.ensures) e;
       goes = search rules;
     }

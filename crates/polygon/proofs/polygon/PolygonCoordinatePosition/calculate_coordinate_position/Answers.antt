@@ -11,8 +11,8 @@ returns g c =
     let e = vertices c.args.self.now.exterior.points.now in
     let hs = rings c.args.self.now.interiors.now in
     let k = grid_point g.T.CoordNum.units c.args.coord.now in
-    let p = c.position-by-rings-position.result in
-    let f = c.position-by-rings-position.ensures in
+    let p = c.position_by_rings-position.result in
+    let f = c.position_by_rings-position.ensures in
     let i = eq_reflects p Inside c.eq.result c.eq.ensures in
     let o = eq_reflects p OnBoundary c.eq-2.result c.eq-2.ensures in
     record {

@@ -6,8 +6,8 @@ use Rattle.millimetre.specs.Millimetres.{units_of}
 use Rattle.millimetre.proofs.Exact.{k256_is, cast_is, on_grid_means}
 use Rattle.scalar.proofs.f64_scalar.F64ScalarCoordNum.to_units.Goals as goal
 
-pub float-to-int-result : goal.float-to-int-result
-float-to-int-result c =
+pub float_to_int-result : goal.float_to_int-result
+float_to_int-result c =
     let x = c.args.self in
     let k = on_grid_means x.value x.grid in
     subst (λ (z : Float). T (in_signed binary64 31 (mul binary64 x.value z))) (sym k256_is) (cast_is x.value (units_of x.value) x.binary64 k.0 k.1).0
