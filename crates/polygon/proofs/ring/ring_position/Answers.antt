@@ -17,11 +17,11 @@ returns-then-eq g c =
     let u = g.T.CoordNum.units in
     let z : length c.in-Some.rest.now ≡ 0 = search rules in
     one_position c.args.points.now c.in-Some.first.now c.in-Some.rest.now (grid_point u c.args.coord.now) c.in-Some.ensures.cases.0 true z
-    (sym c.from_grid.ensures ∙ ap (grid_point u) {x = c.from_grid.result} {y = c.args.coord.now} c.if-eq.ensures)
+    (sym c.from_grid.ensures ∙ ap (grid_point u) {x = c.from_grid.result} {y = c.args.coord.now} c.if-eq.ensures.same)
 
 pub returns-else-eq : goal.returns-else-eq
 returns-else-eq g c =
     let u = g.T.CoordNum.units in
     let z : length c.in-Some.rest.now ≡ 0 = search rules in
     one_position c.args.points.now c.in-Some.first.now c.in-Some.rest.now (grid_point u c.args.coord.now) c.in-Some.ensures.cases.0 false z
-    (λ e. c.if-eq.ensures (same_coord u g.met.T.CoordNum.equal_units _ _ (c.from_grid.ensures ∙ e)))
+    (λ e. c.if-eq.ensures.same (same_coord u g.met.T.CoordNum.equal_units _ _ (c.from_grid.ensures ∙ e)))

@@ -19,7 +19,7 @@ returns-then-eq g c =
     let s = segment u c.args.self.now in
     let t = segment u c.args.line.now in
     let r = c.contains.result in
-    let z : t.p ≡ t.q = ap (grid_point u) c.if-eq.ensures in
+    let z : t.p ≡ t.q = ap (grid_point u) c.if-eq.ensures.same in
     let h : Reflects r (ContainsByEnds s t) = reflects_same r (λ i. record { point = λ _. i; longer = λ n. absurd (n z) }) (λ e. e.point z) c.contains.ensures.rule in
     record { points = by_points r s t (inl z) h; rule = h; ends = ends_are_points s t }
 
@@ -28,7 +28,7 @@ returns-then-not-intersects g c =
     let u = g.T.CoordNum.units in
     let s = segment u c.args.self.now in
     let t = segment u c.args.line.now in
-    let n : LongerThanZero t = λ e. c.if-eq.ensures (same_coord u g.met.T.CoordNum.equal_units _ _ e) in
+    let n : LongerThanZero t = λ e. c.if-eq.ensures.same (same_coord u g.met.T.CoordNum.equal_units _ _ e) in
     let h : Reflects false (ContainsByEnds s t) = λ e. c.if-not-intersects.ensures.touches (e.longer n).0 in
     record { points = by_points false s t (inr n) h; rule = h; ends = ends_are_points s t }
 
@@ -38,7 +38,7 @@ returns g c =
     let s = segment u c.args.self.now in
     let t = segment u c.args.line.now in
     let r = c.intersects-2.result in
-    let n : LongerThanZero t = λ e. c.if-eq.ensures (same_coord u g.met.T.CoordNum.equal_units _ _ e) in
+    let n : LongerThanZero t = λ e. c.if-eq.ensures.same (same_coord u g.met.T.CoordNum.equal_units _ _ e) in
     let h : Reflects r (ContainsByEnds s t) =
     reflects_same r (λ m. record { point = λ z. absurd (n z); longer = λ _. (c.if-not-intersects.ensures.touches, m) }) (λ e. (e.longer n).1) c.intersects-2.ensures.touches in
     record { points = by_points r s t (inr n) h; rule = h; ends = ends_are_points s t }

@@ -21,7 +21,7 @@ returns-then-eq g c =
     let vs = vertices c.args.self.now.points.now in
     let t = segment u c.args.line.now in
     let r = c.contains.result in
-    let z : t.p ≡ t.q = ap (grid_point u) c.if-eq.ensures in
+    let z : t.p ≡ t.q = ap (grid_point u) c.if-eq.ensures.same in
     let h : Reflects r (StringContainsSegment vs t) = reflects_same r (λ i. record { point = λ _. i; longer = λ n. absurd (n z) }) (λ e. e.point z) c.contains.ensures.rule in
     record { points = by_points r vs t h; rule = h }
 
@@ -31,6 +31,6 @@ returns g c =
     let vs = vertices c.args.self.now.points.now in
     let t = segment u c.args.line.now in
     let r = c.covers.result in
-    let n : LongerThanZero t = λ e. c.if-eq.ensures (same_coord u g.met.T.CoordNum.equal_units _ _ e) in
+    let n : LongerThanZero t = λ e. c.if-eq.ensures.same (same_coord u g.met.T.CoordNum.equal_units _ _ e) in
     let h : Reflects r (StringContainsSegment vs t) = reflects_same r (λ k. record { point = λ z. absurd (n z); longer = λ _. k }) (λ e. e.longer n) c.covers.ensures in
     record { points = by_points r vs t h; rule = h }

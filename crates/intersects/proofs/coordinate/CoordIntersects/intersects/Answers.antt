@@ -8,5 +8,5 @@ returns g c =
     let u = g.T.CoordNum.units in
     record {
       points = same_reflects c.eq.result (grid_point u c.args.self.now) (grid_point u c.args.rhs.now)
-          (same_grid u g.met.T.CoordNum.equal_units c.eq.result c.args.self.now c.args.rhs.now c.eq.ensures);
+          (same_grid u g.met.T.CoordNum.equal_units c.eq.result c.args.self.now c.args.rhs.now c.eq.ensures.same);
     }

@@ -11,8 +11,8 @@ pub returns-then-eq : goal.returns-then-eq
 returns-then-eq g c =
     let u = g.T.CoordNum.units in
     let t = segment u c.args.line.now in
-    let i = point_covered (segments (vertices c.args.self.now.points.now)) t (ap (grid_point u) c.if-eq.ensures) in
+    let i = point_covered (segments (vertices c.args.self.now.points.now)) t (ap (grid_point u) c.if-eq.ensures.same) in
     reflects_same c.touches.result i.0 i.1 c.touches.ensures
 
 pub covers_longer-requires : goal.covers_longer-requires
-covers_longer-requires g c = λ e. c.if-eq.ensures (same_coord g.T.CoordNum.units g.met.T.CoordNum.equal_units _ _ e)
+covers_longer-requires g c = λ e. c.if-eq.ensures.same (same_coord g.T.CoordNum.units g.met.T.CoordNum.equal_units _ _ e)

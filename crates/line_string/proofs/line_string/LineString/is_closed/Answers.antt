@@ -14,4 +14,4 @@ returns-in-len2-up g c =
     reflects_same c.eq.result
     (λ e. i.0 (sym c.from_grid.ensures ∙ e ∙ c.from_grid-in-len2-up.ensures))
     (λ e. c.from_grid.ensures ∙ i.1 e ∙ sym c.from_grid-in-len2-up.ensures)
-    (same_grid u g.met.T.CoordNum.equal_units c.eq.result c.from_grid.result c.from_grid-in-len2-up.result c.eq.ensures)
+    (same_grid u g.met.T.CoordNum.equal_units c.eq.result c.from_grid.result c.from_grid-in-len2-up.result c.eq.ensures.same)
