@@ -11,7 +11,7 @@ ghost use Rattle.geometry.specs.Shapes.{segment};
 use crate::Contains;
 use geometry::line::Line;
 use kernel::geo_num::GeoNum;
-use line_string::line_string::LineString;
+use line_strings::line_string::LineString;
 use plane::grid_point::GridPoint;
 use scalar::coord::Coord;
 use scalar::coord_num::CoordNum;

@@ -2,7 +2,7 @@ use crate::{at, line, point};
 use contains::Contains;
 use geometry::line::Line;
 use kernel::geo_num::GeoNum;
-use line_string::line_string::LineString;
+use line_strings::line_string::LineString;
 use plane::grid_point::GridPoint;
 use scalar::coord_num::CoordNum;
 use scalar::f64_scalar::F64Scalar;

@@ -6,7 +6,7 @@ mod containments;
 #[cfg(test)]
 mod groups;
 #[cfg(test)]
-mod line_strings;
+mod linestrings;
 #[cfg(test)]
 mod polygons;
 #[cfg(test)]

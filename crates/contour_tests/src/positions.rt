@@ -4,7 +4,7 @@ use coordinate_position::position::CoordPos;
 use geometry::rect::Rect;
 use geometry::triangle::Triangle;
 use kernel::geo_num::GeoNum;
-use line_string::line_string::LineString;
+use line_strings::line_string::LineString;
 use plane::grid_point::GridPoint;
 use scalar::coord_num::CoordNum;
 use scalar::f64_scalar::F64Scalar;

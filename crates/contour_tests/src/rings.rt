@@ -1,7 +1,7 @@
 use crate::{at, point};
 use coordinate_position::position::CoordPos;
 use kernel::geo_num::GeoNum;
-use line_string::line_string::LineString;
+use line_strings::line_string::LineString;
 use plane::grid_point::GridPoint;
 use polygon::fault::RingFault;
 use polygon::ring::coord_pos_relative_to_ring;

@@ -9,7 +9,7 @@ use crate::CoordinatePosition;
 use crate::position::{CoordPos, Membership};
 use geometry::line::Line;
 use kernel::geo_num::GeoNum;
-use line_string::line_string::LineString;
+use line_strings::line_string::LineString;
 use scalar::coord::Coord;
 use scalar::coord_num::CoordNum;
 

@@ -5,7 +5,7 @@
 use coordinate_position::CoordinatePosition;
 use coordinate_position::position::CoordPos;
 use kernel::geo_num::GeoNum;
-use line_string::line_string::LineString;
+use line_strings::line_string::LineString;
 use plane::grid_point::GridPoint;
 use polygon::fault::RingFault;
 use polygon::polygon::Polygon;

@@ -3,7 +3,7 @@ use Rattle.std.proofs.Common.{◌≡◌, ℕ, ◌+◌, ◌<◌, ◌≤◌, List,
 use Rattle.std.proofs.lemmas.List.{at_drop_more, at_drop_all}
 use Rattle.plane.specs.declared.grid_point.GridPoint.{GridPoint}
 use Rattle.polyline.specs.Strings.{vertices, Closed}
-use Rattle.line_string.specs.declared.line_string.LineString.{LineString}
+use Rattle.line_strings.specs.declared.line_string.LineString.{LineString}
 use Rattle.coordinate_position.specs.declared.position.CoordPos.{CoordPos}
 use Rattle.coordinate_position.specs.declared.position.CoordPos.TheVariants.{Inside}
 use Rattle.polygon.specs.declared.fault.RingFault.TheVariants.{Open}

@@ -2,7 +2,7 @@
 use Rattle.std.specs.Prelude.{◌≡◌, Bool, true, false, ◌⊎◌, List, [], ◌∷◌, map}
 use Rattle.plane.specs.declared.grid_point.GridPoint.{GridPoint}
 use Rattle.polyline.specs.Strings.{vertices}
-use Rattle.line_string.specs.declared.line_string.LineString.{LineString}
+use Rattle.line_strings.specs.declared.line_string.LineString.{LineString}
 use Rattle.coordinate_position.specs.declared.position.CoordPos.{CoordPos}
 use Rattle.coordinate_position.specs.declared.position.CoordPos.TheVariants.{OnBoundary, Inside, Outside}
 use Rattle.coordinate_position.specs.Shapes.{Shape}

@@ -7,7 +7,7 @@ ghost use Rattle.polygon.specs.Passings.{Passes};
 
 use kernel::geo_num::GeoNum;
 use kernel::kernels::Kernel;
-use line_string::ranges::is_between;
+use line_strings::ranges::is_between;
 use plane::grid_point::GridPoint;
 use plane::orientation::Orientation;
 use scalar::coord::Coord;

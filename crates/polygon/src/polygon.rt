@@ -14,7 +14,7 @@ use crate::ring::ring_position;
 use coordinate_position::CoordinatePosition;
 use coordinate_position::position::{CoordPos, Membership};
 use kernel::geo_num::GeoNum;
-use line_string::line_string::LineString;
+use line_strings::line_string::LineString;
 use scalar::coord::Coord;
 use scalar::coord_num::CoordNum;
 

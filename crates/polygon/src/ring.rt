@@ -13,7 +13,7 @@ use crate::fault::RingFault;
 use crate::passing::{Passing, pass_edge};
 use coordinate_position::position::CoordPos;
 use kernel::geo_num::GeoNum;
-use line_string::line_string::LineString;
+use line_strings::line_string::LineString;
 use plane::grid_point::GridPoint;
 use scalar::coord::Coord;
 use scalar::coord_num::CoordNum;

@@ -1,7 +1,7 @@
 use Rattle.std.proofs.Common.{true, false, w32, SFits, rules}
 use Rattle.plane.specs.Points.{Segment}
 use Rattle.plane.specs.Reach.{read_point}
-use Rattle.line_string.proofs.Casts.{read_passed, between_passed}
+use Rattle.line_strings.proofs.Casts.{read_passed, between_passed}
 use Rattle.polygon.proofs.Casts.{half_between_passed}
 use Rattle.polygon.proofs.Passings.{told_turn, missed_clear, left_upward, left_clear, right_downward, right_clear, line_touched, line_clear}
 use Rattle.polygon.proofs.passing.pass_edge.Goals as goal

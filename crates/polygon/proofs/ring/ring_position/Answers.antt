@@ -4,8 +4,8 @@ use Rattle.scalar.proofs.CoordLaws.{same_coord}
 use Rattle.polygon.proofs.Rings.{none_outside, one_position, more_position}
 use Rattle.polygon.proofs.ring.ring_position.Goals as goal
 
-pub returns-in-default : goal.returns-in-default
-returns-in-default g c = none_outside c.args.points.now _ c.in-default.ensures.cases
+pub returns-in_default : goal.returns-in_default
+returns-in_default g c = none_outside c.args.points.now _ c.in_default.ensures.cases
 
 pub returns-then-not-is_empty : goal.returns-then-not-is_empty
 returns-then-not-is_empty g c =

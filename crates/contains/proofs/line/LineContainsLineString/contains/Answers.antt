@@ -15,11 +15,11 @@ use Rattle.contains.proofs.line.LineContainsLineString.contains.Goals as goal
 by_points : (r : Bool) (s : Segment) (vs : List GridPoint) → Reflects r (SegmentContainsString s vs) → Reflects r (Subset (OnString vs) (On s) × Common (OnString vs) (Interior s))
 by_points r s vs h = reflects_same r (segment_contains s vs) (contains_segment s vs) h
 
-pub returns-in-default : goal.returns-in-default
-returns-in-default g c =
+pub returns-in_default : goal.returns-in_default
+returns-in_default g c =
     let s = segment g.T.CoordNum.units c.args.self.now in
     let ps = c.args.line_string.now.points.now in
-    let h = none_in_segment ps s c.in-default.ensures.cases in
+    let h = none_in_segment ps s c.in_default.ensures.cases in
     record { points = by_points false s (vertices ps) h; rule = h }
 
 pub returns-then-not-all_touch : goal.returns-then-not-all_touch

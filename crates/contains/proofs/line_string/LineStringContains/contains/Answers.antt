@@ -12,11 +12,11 @@ use Rattle.contains.proofs.line_string.LineStringContains.contains.Goals as goal
 by_points : (r : Bool) (vs ws : List GridPoint) → Reflects r (StringContainsString vs ws) → Reflects r (Subset (OnString ws) (OnString vs) × Common (OnString ws) (StringInterior vs))
 by_points r vs ws h = reflects_same r (string_contains_string vs ws) (string_in_string vs ws) h
 
-pub returns-in-default : goal.returns-in-default
-returns-in-default g c =
+pub returns-in_default : goal.returns-in_default
+returns-in_default g c =
     let vs = vertices c.args.self.now.points.now in
     let ps = c.args.rhs.now.points.now in
-    let h = none_in_string ps vs c.in-default.ensures.cases in
+    let h = none_in_string ps vs c.in_default.ensures.cases in
     record { points = by_points false vs (vertices ps) h; rule = h }
 
 pub returns-then-all_equal : goal.returns-then-all_equal

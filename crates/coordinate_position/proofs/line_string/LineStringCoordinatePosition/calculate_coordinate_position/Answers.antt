@@ -41,8 +41,8 @@ returns-in-len2 g c =
     let w = string_words vs k m v in
     record { value = v; inside = w.0; boundary = w.1 }
 
-pub returns-in-default : goal.returns-in-default
-returns-in-default g c =
+pub returns-in_default : goal.returns-in_default
+returns-in_default g c =
     let vs = vertices c.args.self.now.points.now in
     let k = grid_point g.T.CoordNum.units c.args.coord.now in
     let m = c.position_among_segments.result in
