@@ -1,6 +1,7 @@
 mod Casts
 mod Holes
 mod Passings
+mod PositionEquality
 mod Polygons
 mod Refusals
 mod Rings
