@@ -1,5 +1,5 @@
 use Rattle.std.proofs.Common.{◌≤◌}
-use Rattle.milled_blank.proofs.drills_in_material.Given as goal
+use Rattle.drilled_blank.proofs.drills_in_material.Given as goal
 
 -- no more drills are counted than were read
 abbrev pub invariant-loop-p : goal.invariant-loop-p
