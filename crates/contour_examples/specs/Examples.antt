@@ -1,5 +1,5 @@
 -- Worked examples of line strings, positions, groups and rings, in units.
-use Rattle.std.specs.Prelude.{List, [], ◌∷◌, ◌≡◌, ℤ, pos}
+use Rattle.std.specs.Prelude.{List, [], ◌∷◌, ◌≡◌, pos}
 use Rattle.plane.specs.declared.grid_point.GridPoint.{GridPoint}
 use Rattle.plane.specs.Points.{Segment}
 use Rattle.polyline.specs.Segments.{Covered}

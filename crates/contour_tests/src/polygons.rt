@@ -77,7 +77,9 @@ const FILLED: [(GridPoint, CoordPos); 2] = [
 fn polygons<T: GeoNum>(rt: &impl Abort) -> Result<(), Fail> {
     polygon::<T>(rt, &OUTLINE, &[], &HOLE, &WITH_A_HOLE)?;
     polygon::<T>(rt, &OUTLINE, &OUTLINE, &[], &FILLED)?;
-    polygon::<T>(rt, &[], &HOLE, &[], &[(point(2, 3), CoordPos::Outside)]).note("no exterior")?;
+    // no exterior
+    polygon::<T>(rt, &[], &HOLE, &[], &[(point(2, 3), CoordPos::Outside)])?;
+    // the first hole that is not outside decides
     polygon::<T>(
         rt,
         &OUTLINE,
@@ -85,7 +87,6 @@ fn polygons<T: GeoNum>(rt: &impl Abort) -> Result<(), Fail> {
         &HOLE,
         &[(point(3, 3), CoordPos::OnBoundary)],
     )
-    .note("the first hole that is not outside decides")
 }
 
 #[test]

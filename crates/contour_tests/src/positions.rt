@@ -140,7 +140,8 @@ const ON_DOT: [(GridPoint, CoordPos); 2] = [
 fn triangles<T: GeoNum>(rt: &impl Abort) -> Result<(), Fail> {
     let (a, b, c) = (point(0, 0), point(4, 0), point(0, 4));
     positions(rt, &triangle::<T>(a, b, c), &ON_TRIANGLE)?;
-    positions(rt, &triangle::<T>(c, b, a), &ON_TRIANGLE).note("clockwise")?;
+    // clockwise
+    positions(rt, &triangle::<T>(c, b, a), &ON_TRIANGLE)?;
     positions(rt, &triangle::<T>(a, a, b), &ON_FLAT)?;
     positions(
         rt,

@@ -1,5 +1,5 @@
 -- The signs of products and differences.
-use Rattle.std.proofs.Common.{◌≡◌, zero, suc, ◌*◌, ℤ, pos, negsuc, ◌-ℤ◌, ◌*ℤ◌, ◌<ℤ◌, refl, ap, zero-lt-suc, mul-pos, arith}
+use Rattle.std.proofs.Common.{◌≡◌, zero, suc, ℤ, pos, negsuc, ◌-ℤ◌, ◌*ℤ◌, ◌<ℤ◌, refl, ap, zero-lt-suc, mul-pos, arith}
 use Rattle.std.proofs.lemmas.Int.{ints}
 use Rattle.kernel.specs.Signs.{signum}
 
