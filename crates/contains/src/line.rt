@@ -1,4 +1,4 @@
-ghost use Rattle.std.specs.List.{AllByRecursion as All};
+ghost use Rattle.std.specs.List.{AllByRecursion};
 ghost use Rattle.plane.specs.Points.{On, Touches};
 ghost use Rattle.plane.specs.Reach.{read_point};
 ghost use Rattle.plane.specs.Reflects.{Reflects, Iff};
@@ -75,7 +75,7 @@ impl<'a, T: GeoNum> Contains<LineString<'a, T>> for Line<T> {
 
 // Whether all vertices touch the line.
 fn all_touch<T: GeoNum>(line: &Line<T>, points: &[GridPoint]) -> bool
-    ensures { Reflects result (All (λ p. Touches (segment T.CoordNum.units line.now) (read_point p)) points.now) }
+    ensures { Reflects result (AllByRecursion (λ p. Touches (segment T.CoordNum.units line.now) (read_point p)) points.now) }
 {
     for point in points {
         if !<Line<_> as Intersects<Coord<_>>>::intersects(line, &Coord::from_grid(*point)) {

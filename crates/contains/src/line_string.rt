@@ -1,4 +1,4 @@
-ghost use Rattle.std.specs.List.{AllByRecursion as All};
+ghost use Rattle.std.specs.List.{AllByRecursion};
 ghost use Rattle.plane.specs.Points.{On, LongerThanZero};
 ghost use Rattle.plane.specs.Reach.{read_point};
 ghost use Rattle.plane.specs.Reflects.{Reflects};
@@ -68,7 +68,7 @@ fn covers_longer_lines<T: GeoNum>(
     first: GridPoint,
     rest: &[GridPoint],
 ) -> bool
-    ensures { Reflects result (All (λ t. LongerThanZero t → Covered (segments (vertices line_string.now.points.now)) t) (chain (read_point first) (vertices rest.now))) }
+    ensures { Reflects result (AllByRecursion (λ t. LongerThanZero t → Covered (segments (vertices line_string.now.points.now)) t) (chain (read_point first) (vertices rest.now))) }
 {
     let mut start = first;
     for point in rest {

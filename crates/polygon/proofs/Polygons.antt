@@ -1,7 +1,7 @@
 -- What the position in a polygon says.
 use Rattle.std.proofs.Common.{◌≡◌, Bool, ◌⊎◌, List, [], ◌∷◌, sym, refl, ap, ◌∙◌, inl, inr}
 use mathlib.Core.Bool.{false≢true}
-use Rattle.std.specs.List.{AllByRecursion as All}
+use Rattle.std.specs.List.{AllByRecursion}
 use Rattle.plane.specs.declared.grid_point.GridPoint.{GridPoint}
 use Rattle.plane.specs.Reflects.{Reflects, Iff}
 use Rattle.plane.proofs.Answers.{reflects_same}
@@ -37,7 +37,7 @@ outside_not_boundary e = absurd (false≢true (ap is_boundary e))
 -- ---- holes
 
 module _ (c : GridPoint) where
-  past_inside : (hs : List (List GridPoint)) → Iff (past_holes hs c ≡ Inside) (All (λ h. ring_position h c ≡ Outside) hs)
+  past_inside : (hs : List (List GridPoint)) → Iff (past_holes hs c ≡ Inside) (AllByRecursion (λ h. ring_position h c ≡ Outside) hs)
   past_inside [] = ((λ e. tt), (λ a. refl))
   past_inside (h ∷ hs) = go (ring_position h c) (past_inside hs)
     where
@@ -60,7 +60,7 @@ module _ (c : GridPoint) where
 module _ (e : List GridPoint) (hs : List (List GridPoint)) (c : GridPoint) where
   -- inside the exterior and outside all holes
   abbrev pub InsideAll : Type 0
-  InsideAll = (ring_position e c ≡ Inside) × All (λ h. ring_position h c ≡ Outside) hs
+  InsideAll = (ring_position e c ≡ Inside) × AllByRecursion (λ h. ring_position h c ≡ Outside) hs
 
   -- on the exterior, or inside it and on the first hole that decides
   abbrev pub OnRing : Type 0

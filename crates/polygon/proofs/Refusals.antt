@@ -1,6 +1,6 @@
 -- Which rings are refused.
 use Rattle.std.proofs.Common.{◌≡◌, ℕ, ◌+◌, Bool, true, false, cond, List, [], ◌∷◌, Some, None, sym, refl, ap, ◌∙◌, arith}
-use Rattle.std.specs.List.{AllByRecursion as All}
+use Rattle.std.specs.List.{AllByRecursion}
 use Rattle.plane.specs.declared.grid_point.GridPoint.{GridPoint}
 use Rattle.plane.specs.Reflects.{Reflects, Iff}
 use Rattle.polyline.specs.Strings.{last, Closed}
@@ -25,7 +25,7 @@ module _ (i : ℕ) (r : List GridPoint) (rs : List (List GridPoint)) where
   open_refused n = by_closed false n
 
 -- rings are not refused exactly if all are closed
-pub none_refused : (i : ℕ) (rs : List (List GridPoint)) → Iff (refusal_from i rs ≡ None) (All Closed rs)
+pub none_refused : (i : ℕ) (rs : List (List GridPoint)) → Iff (refusal_from i rs ≡ None) (AllByRecursion Closed rs)
 none_refused i [] = ((λ _. tt), (λ _. refl))
 none_refused i (r ∷ rs) = let j = none_refused (i + 1) rs in
     ((λ e. tell j.0 (closed r) (closed_reflects r) e), (λ h. closed_passes i r rs h.0 ∙ j.1 h.1))
@@ -33,7 +33,7 @@ none_refused i (r ∷ rs) = let j = none_refused (i + 1) rs in
     never : Some (ring_fault (Open i)) ≡ None → ⊥
     never e = let z : ◌≡◌ {A = ℕ} 0 1 = cc in omega arith
 
-    tell : (refusal_from (i + 1) rs ≡ None → All Closed rs) → (b : Bool) → Reflects b (Closed r) → cond (closed r) (refusal_from (i + 1) rs) (Some (ring_fault (Open i))) ≡ None → Closed r × All Closed rs
+    tell : (refusal_from (i + 1) rs ≡ None → AllByRecursion Closed rs) → (b : Bool) → Reflects b (Closed r) → cond (closed r) (refusal_from (i + 1) rs) (Some (ring_fault (Open i))) ≡ None → Closed r × AllByRecursion Closed rs
     tell f true c e = (c, f (sym (closed_passes i r rs c) ∙ e))
     tell f false n e = absurd (never (sym (open_refused i r rs n) ∙ e))
 

@@ -1,5 +1,5 @@
 ghost use Rattle.std.specs.Prelude.{◌≡◌, ◌⊎◌, IfOk, Some, None, MatchOption, MatchResult};
-ghost use Rattle.std.specs.List.{AllByRecursion as All};
+ghost use Rattle.std.specs.List.{AllByRecursion};
 ghost use Rattle.plane.specs.Reflects.{Reflects, Iff};
 ghost use Rattle.polyline.specs.Strings.{vertices, Closed};
 ghost use Rattle.scalar.specs.Coords.{grid_point};
@@ -33,7 +33,7 @@ impl<'a, 'b, T: GeoNum> Polygon<'a, 'b, T> {
         interiors: &'b [LineString<'a, T>],
     ) -> Result<Polygon<'a, 'b, T>, RingFault>
         ensures refusal { MatchResult result (λ _. polygon_refusal (vertices exterior.entry.points.now) (rings interiors.now) ≡ None) (λ e. polygon_refusal (vertices exterior.entry.points.now) (rings interiors.now) ≡ Some (ring_fault e)) }
-        ensures closed { Iff (polygon_refusal (vertices exterior.entry.points.now) (rings interiors.now) ≡ None) (Closed (vertices exterior.entry.points.now) × All Closed (rings interiors.now)) }
+        ensures closed { Iff (polygon_refusal (vertices exterior.entry.points.now) (rings interiors.now) ≡ None) (Closed (vertices exterior.entry.points.now) × AllByRecursion Closed (rings interiors.now)) }
         ensures parts { IfOk result (λ p. (p.exterior.points.now ≡ exterior.entry.points.now) × (p.interiors.now ≡ interiors.now)) }
     {
         if !exterior.is_closed() {
@@ -106,7 +106,7 @@ impl<'a, 'b, T: GeoNum> CoordinatePosition for Polygon<'a, 'b, T> {
 
     fn calculate_coordinate_position(&self, coord: &Coord<T>) -> Membership
         ensures value { result ≡ membership (polygon_shape (vertices self.now.exterior.points.now) (rings self.now.interiors.now)) (grid_point T.CoordNum.units coord.now) }
-        ensures inside { Reflects result.inside ((ring_position (vertices self.now.exterior.points.now) (grid_point T.CoordNum.units coord.now) ≡ Inside) × All (λ h. ring_position h (grid_point T.CoordNum.units coord.now) ≡ Outside) (rings self.now.interiors.now)) }
+        ensures inside { Reflects result.inside ((ring_position (vertices self.now.exterior.points.now) (grid_point T.CoordNum.units coord.now) ≡ Inside) × AllByRecursion (λ h. ring_position h (grid_point T.CoordNum.units coord.now) ≡ Outside) (rings self.now.interiors.now)) }
         ensures boundary { Reflects result.odd ((ring_position (vertices self.now.exterior.points.now) (grid_point T.CoordNum.units coord.now) ≡ OnBoundary) ⊎ ((ring_position (vertices self.now.exterior.points.now) (grid_point T.CoordNum.units coord.now) ≡ Inside) × OnFirstHole (rings self.now.interiors.now) (grid_point T.CoordNum.units coord.now))) }
     {
         let position = position_by_rings(self, coord);

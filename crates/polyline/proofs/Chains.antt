@@ -1,6 +1,6 @@
 -- The segments of a line string as a loop over its points reads them, for whatever is worked out of them.
 use Rattle.std.proofs.Common.{◌≡◌, ℕ, ◌+◌, ◌-◌, ◌<◌, ◌≤◌, ◌⊎◌, List, [], ◌∷◌, length, get_or, drop, ℤ, pos, sym, refl, ap, ◌∙◌, subst, inl, inr, arith}
-use Rattle.std.specs.List.{AllByRecursion as All}
+use Rattle.std.specs.List.{AllByRecursion}
 use Rattle.std.proofs.lemmas.List.{at_drop_more, at_drop_all, nil_from_length}
 use Rattle.plane.specs.declared.grid_point.GridPoint.{GridPoint}
 use Rattle.plane.specs.Points.{Segment}
@@ -69,7 +69,7 @@ none_ends (p ∷ ps) X Y d h e = absurd (omega arith)
 -- ---- all vertices
 
 -- what holds of all points as they are read holds of all vertices
-pub all_vertices : (P : GridPoint → Type 0) (ps : List GridPoint) → Iff (All (λ p. P (read_point p)) ps) (All P (vertices ps))
+pub all_vertices : (P : GridPoint → Type 0) (ps : List GridPoint) → Iff (AllByRecursion (λ p. P (read_point p)) ps) (AllByRecursion P (vertices ps))
 all_vertices P [] = ((λ h. h), (λ h. h))
 all_vertices P (p ∷ ps) = let i = all_vertices P ps in ((λ h. (h.0, i.0 h.1)), (λ h. (h.0, i.1 h.1)))
 
@@ -78,7 +78,7 @@ none_equal [] e = tt
 none_equal (p ∷ ps) e = absurd (omega arith)
 
 -- all vertices are equal exactly if all points but the first are read as the first is
-pub equal_to_first : (ps : List GridPoint) (p : GridPoint) (qs : List GridPoint) → ps ≡ p ∷ qs → Iff (All (λ q. read_point p ≡ read_point q) qs) (AllEqual (vertices ps))
+pub equal_to_first : (ps : List GridPoint) (p : GridPoint) (qs : List GridPoint) → ps ≡ p ∷ qs → Iff (AllByRecursion (λ q. read_point p ≡ read_point q) qs) (AllEqual (vertices ps))
 equal_to_first ps p qs e = let i = all_vertices (λ v. read_point p ≡ v) qs in
     ((λ h. subst (λ (rs : List GridPoint). AllEqual (vertices rs)) (sym e) (i.0 h)), (λ h. i.1 (subst (λ (rs : List GridPoint). AllEqual (vertices rs)) e h)))
 

@@ -2,7 +2,7 @@
 -- point of s lies on none of the list, since every other segment meets the line of s at most once.
 use Rattle.std.proofs.Common.{◌≡◌, ℕ, suc, ◌*◌, ◌<◌, ◌≤◌, ◌⊎◌, List, [], ◌∷◌, length, ℤ, pos, negsuc, ◌+ℤ◌, ◌-ℤ◌, ◌*ℤ◌, nat_abs, ◌≤ℤ◌, ◌<ℤ◌, refl, ap, inl, inr, arith}
 use native.Mathlib.Decide.{ℕ_discrete}
-use Rattle.std.specs.List.{AllByRecursion as All}
+use Rattle.std.specs.List.{AllByRecursion}
 use Rattle.std.proofs.ByRecursion.{All-weaker}
 use Rattle.std.proofs.lemmas.Int.{ints, by_lt_z}
 use Rattle.plane.specs.Points.{Segment, On, Between}
@@ -105,7 +105,7 @@ abs_times m (pos z) h = refl
 abs_times m (negsuc z) h = absurd (omega (arith, ints))
 
 -- a list that is clear of the stretch after lo does not cover s
-pub open_gap : (s : Segment) → s.p.x <ℤ s.q.x → (lo : ℤ) → s.p.x ≤ℤ lo → lo <ℤ s.q.x → (ts : List Segment) → All (Clear s lo) ts → Covered ts s → ⊥
+pub open_gap : (s : Segment) → s.p.x <ℤ s.q.x → (lo : ℤ) → s.p.x ≤ℤ lo → lo <ℤ s.q.x → (ts : List Segment) → AllByRecursion (Clear s lo) ts → Covered ts s → ⊥
 open_gap s l lo p q ts a c =
     let n = length ts in
     let m = suc (suc n) in

@@ -1,7 +1,7 @@
 -- The pigeonhole principle: of more numbers than members, two fall to one member.
 use Rattle.std.proofs.Common.{◌≡◌, ℕ, zero, suc, ◌≤◌, cond, eqb, ◌⊎◌, List, [], ◌∷◌, length, inl, inr, arith}
 use native.Mathlib.Decide.{dec_le}
-use Rattle.std.specs.List.{AllByRecursion as All}
+use Rattle.std.specs.List.{AllByRecursion}
 use Rattle.std.proofs.ByRecursion.{All-weaker}
 use Rattle.std.proofs.lemmas.Bool.Decides.{nat_tests}
 
@@ -42,7 +42,7 @@ module _ {S : Type 0} where
   related_swapped R f (t ∷ ts) i (inr h) = inr (related_swapped R f ts i h)
 
   -- where each member is related to one number at most, not all of the numbers up to n are related to some of n members
-  pub pigeonhole : (R : S → ℕ → Type 0) (ts : List S) (n : ℕ) → length ts ≤ n → All (λ t. (i j : ℕ) → i ≤ n → j ≤ n → R t i → R t j → i ≡ j) ts → ((i : ℕ) → i ≤ n → Related R ts i) → ⊥
+  pub pigeonhole : (R : S → ℕ → Type 0) (ts : List S) (n : ℕ) → length ts ≤ n → AllByRecursion (λ t. (i j : ℕ) → i ≤ n → j ≤ n → R t i → R t j → i ≡ j) ts → ((i : ℕ) → i ≤ n → Related R ts i) → ⊥
   pigeonhole R [] n l a h = h 0 (omega arith)
   pigeonhole R (t ∷ ts) zero l a h = absurd (omega arith)
   pigeonhole R (t ∷ ts) (suc n) l a h =

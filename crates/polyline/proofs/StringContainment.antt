@@ -1,6 +1,6 @@
 -- Which line strings are held by a segment, and which grid points, segments and line strings by a line string.
 use Rattle.std.proofs.Common.{◌≡◌, ℕ, Bool, List, [], ◌∷◌, ℤ, refl, subst, inl, inr, arith}
-use Rattle.std.specs.List.{AllByRecursion as All}
+use Rattle.std.specs.List.{AllByRecursion}
 use Rattle.std.proofs.ByRecursion.{All-weaker}
 use Rattle.plane.specs.declared.grid_point.GridPoint.{GridPoint}
 use Rattle.plane.specs.Reflects.{Reflects}
@@ -30,8 +30,8 @@ record HoldsSegment (Q I : ℤ → ℤ → ℕ → Type 0) (t : Segment) : Type 
 
 record HoldsString (Q I : ℤ → ℤ → ℕ → Type 0) (ws : List GridPoint) : Type 0 where
   some : ws ≡ [] → ⊥
-  longer : All (λ t. LongerThanZero t → Subset (On t) Q) (segments ws)
-  equal : AllEqual ws → All (λ w. I w.x w.y 1) ws
+  longer : AllByRecursion (λ t. LongerThanZero t → Subset (On t) Q) (segments ws)
+  equal : AllEqual ws → AllByRecursion (λ w. I w.x w.y 1) ws
 
 module _ {Q I : ℤ → ℤ → ℕ → Type 0} (shape : Shape Q I) where
   grid_reflects : (r : Bool) (c : GridPoint) → Reflects r (I c.x c.y 1) → Reflects r (Subset (At c) Q × Common (At c) I)
@@ -66,7 +66,7 @@ module _ {Q I : ℤ → ℤ → ℕ → Type 0} (shape : Shape Q I) where
     equal = equal_in ws m;
   }
     where
-      equal_in : (us : List GridPoint) → Common (OnString us) I → AllEqual us → All (λ w. I w.x w.y 1) us
+      equal_in : (us : List GridPoint) → Common (OnString us) I → AllEqual us → AllByRecursion (λ w. I w.x w.y 1) us
       equal_in [] m e = tt
       equal_in (v ∷ us) m e =
           let i = shape.grid_in v (record { X = m.X; Y = m.Y; d = m.d; positive = m.positive; first = equal_at v us e m.X m.Y m.d m.positive m.first; second = m.second }) in
@@ -82,7 +82,7 @@ segment_shape s = record {
 }
 
 -- the segments between vertices that touch s lie on it
-touched_longer : (s : Segment) (vs : List GridPoint) → All (Touches s) vs → All (λ t. LongerThanZero t → Subset (On t) (On s)) (segments vs)
+touched_longer : (s : Segment) (vs : List GridPoint) → AllByRecursion (Touches s) vs → AllByRecursion (λ t. LongerThanZero t → Subset (On t) (On s)) (segments vs)
 touched_longer s [] h = tt
 touched_longer s (v ∷ []) h = tt
 touched_longer s (v ∷ (w ∷ ws)) h = ((λ l. convex s (record { p = v; q = w }) h.0 h.1.0), touched_longer s (w ∷ ws) h.1)

@@ -1,6 +1,6 @@
 -- The rules of containment as they are decided: by the ends, by the first vertex, by the longer segments.
 use Rattle.std.proofs.Common.{◌≡◌, ℕ, List, [], ◌∷◌, length, ℤ, sym, ap, subst, inl, inr, arith}
-use Rattle.std.specs.List.{AllByRecursion as All}
+use Rattle.std.specs.List.{AllByRecursion}
 use Rattle.std.proofs.ByRecursion.{All-weaker}
 use Rattle.std.proofs.lemmas.List.{nil_from_length}
 use Rattle.plane.specs.declared.grid_point.GridPoint.{GridPoint}
@@ -16,7 +16,7 @@ use Rattle.polyline.proofs.Chains.{all_vertices}
 
 -- ---- a line string over a grid point
 
-all_last : (P : GridPoint → Type 0) (v : GridPoint) (ws : List GridPoint) → All P (v ∷ ws) → P (last v ws)
+all_last : (P : GridPoint → Type 0) (v : GridPoint) (ws : List GridPoint) → AllByRecursion P (v ∷ ws) → P (last v ws)
 all_last P v [] h = h.0
 all_last P v (w ∷ ws) h = all_last P w ws h.1
 
@@ -68,20 +68,20 @@ module _ (ps : List GridPoint) (p : GridPoint) (qs : List GridPoint) (e : ps ≡
           few (v ∷ vs) = 1
 
   -- of equal vertices, what holds of the first holds of all
-  first_tells : (P : GridPoint → Type 0) → AllEqual (vertices ps) → Iff (P (read_point p)) (All P (vertices ps))
+  first_tells : (P : GridPoint → Type 0) → AllEqual (vertices ps) → Iff (P (read_point p)) (AllByRecursion P (vertices ps))
   first_tells P a =
-      let b : All (λ w. read_point p ≡ w) (vertices qs) = subst (λ (rs : List GridPoint). AllEqual (vertices rs)) e a in (
-        (λ h. subst (λ (rs : List GridPoint). All P (vertices rs)) (sym e) (h, All-weaker (λ w. read_point p ≡ w) P (λ w f. subst P f h) (vertices qs) b)),
-        (λ h. (subst (λ (rs : List GridPoint). All P (vertices rs)) e h).0),
+      let b : AllByRecursion (λ w. read_point p ≡ w) (vertices qs) = subst (λ (rs : List GridPoint). AllEqual (vertices rs)) e a in (
+        (λ h. subst (λ (rs : List GridPoint). AllByRecursion P (vertices rs)) (sym e) (h, All-weaker (λ w. read_point p ≡ w) P (λ w f. subst P f h) (vertices qs) b)),
+        (λ h. (subst (λ (rs : List GridPoint). AllByRecursion P (vertices rs)) e h).0),
       )
 
   -- all touch and are equal: the first decides
-  pub equal_in_segment : (s : Segment) → All (λ q. Touches s (read_point q)) ps → AllEqual (vertices ps) → Iff (Interior s (read_point p).x (read_point p).y 1) (SegmentContainsString s (vertices ps))
+  pub equal_in_segment : (s : Segment) → AllByRecursion (λ q. Touches s (read_point q)) ps → AllEqual (vertices ps) → Iff (Interior s (read_point p).x (read_point p).y 1) (SegmentContainsString s (vertices ps))
   equal_in_segment s t a =
       let i = first_tells (λ v. Interior s v.x v.y 1) a in
       ((λ h. record { some = some; touch = (all_vertices (Touches s) ps).0 t; equal = λ _. i.0 h }), (λ h. i.1 (h.equal a)))
 
-  pub unequal_in_segment : (s : Segment) → All (λ q. Touches s (read_point q)) ps → (AllEqual (vertices ps) → ⊥) → SegmentContainsString s (vertices ps)
+  pub unequal_in_segment : (s : Segment) → AllByRecursion (λ q. Touches s (read_point q)) ps → (AllEqual (vertices ps) → ⊥) → SegmentContainsString s (vertices ps)
   unequal_in_segment s t n = record { some = some; touch = (all_vertices (Touches s) ps).0 t; equal = λ a. absurd (n a) }
 
   -- all are equal: the first decides
@@ -89,12 +89,12 @@ module _ (ps : List GridPoint) (p : GridPoint) (qs : List GridPoint) (e : ps ≡
   equal_in_string vs a =
       let i = first_tells (λ v. StringInterior vs v.x v.y 1) a in
       let b = subst (λ (rs : List GridPoint). AllEqual (vertices rs)) e a in
-      let n : All (λ t. LongerThanZero t → Covered (segments vs) t) (segments (vertices ps)) =
-      subst (λ (rs : List GridPoint). All (λ t. LongerThanZero t → Covered (segments vs) t) (segments (vertices rs))) (sym e) (none_longer (Covered (segments vs)) (read_point p) (vertices qs) b) in
+      let n : AllByRecursion (λ t. LongerThanZero t → Covered (segments vs) t) (segments (vertices ps)) =
+      subst (λ (rs : List GridPoint). AllByRecursion (λ t. LongerThanZero t → Covered (segments vs) t) (segments (vertices rs))) (sym e) (none_longer (Covered (segments vs)) (read_point p) (vertices qs) b) in
       ((λ h. record { some = some; longer = n; equal = λ _. i.0 h }), (λ h. i.1 (h.equal a)))
 
   -- not all are equal: the longer segments decide
-  pub unequal_in_string : (vs : List GridPoint) → (AllEqual (vertices ps) → ⊥) → Iff (All (λ t. LongerThanZero t → Covered (segments vs) t) (chain (read_point p) (vertices qs))) (StringContainsString vs (vertices ps))
+  pub unequal_in_string : (vs : List GridPoint) → (AllEqual (vertices ps) → ⊥) → Iff (AllByRecursion (λ t. LongerThanZero t → Covered (segments vs) t) (chain (read_point p) (vertices qs))) (StringContainsString vs (vertices ps))
   unequal_in_string vs n =
-      let P : List GridPoint → Type 0 = λ rs. All (λ t. LongerThanZero t → Covered (segments vs) t) (segments (vertices rs)) in
+      let P : List GridPoint → Type 0 = λ rs. AllByRecursion (λ t. LongerThanZero t → Covered (segments vs) t) (segments (vertices rs)) in
       ((λ h. record { some = some; longer = subst P (sym e) h; equal = λ a. absurd (n a) }), (λ h. subst P e h.longer))

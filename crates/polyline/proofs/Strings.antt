@@ -1,6 +1,6 @@
 -- Line strings by their points: scaling, the segments of a chain, and the first of them that is longer than zero.
 use Rattle.std.proofs.Common.{◌≡◌, ℕ, ◌≤◌, ◌⊎◌, List, [], ◌∷◌, ℤ, sym, refl, ap, ◌∙◌, subst, inl, inr, arith}
-use Rattle.std.specs.List.{AllByRecursion as All}
+use Rattle.std.specs.List.{AllByRecursion}
 use Rattle.std.proofs.ByRecursion.{All-weaker}
 use Rattle.plane.specs.declared.grid_point.GridPoint.{GridPoint}
 use Rattle.plane.specs.Reflects.{Iff}
@@ -105,19 +105,19 @@ longer_covered (v ∷ []) t l h = absurd (l (at_is t.p v (h t.p.x t.p.y 1 (omega
 longer_covered (v ∷ (w ∷ ws)) t l h = h
 
 -- each segment lies on all of them together, and each vertex and segment of a line string on it
-pub each_covered : (ss : List Segment) → All (Covered ss) ss
+pub each_covered : (ss : List Segment) → AllByRecursion (Covered ss) ss
 each_covered [] = tt
 each_covered (s ∷ ss) = ((λ X Y d n o. inl o), All-weaker (Covered ss) (Covered (s ∷ ss)) (λ t k X Y d n o. inr (k X Y d n o)) ss (each_covered ss))
 
-pub each_on_string : (vs : List GridPoint) → All (λ t. Subset (On t) (OnString vs)) (segments vs)
+pub each_on_string : (vs : List GridPoint) → AllByRecursion (λ t. Subset (On t) (OnString vs)) (segments vs)
 each_on_string vs = All-weaker (Covered (segments vs)) (λ t. Subset (On t) (OnString vs)) (covered_on vs) (segments vs) (each_covered (segments vs))
 
-pub vertices_on : (vs : List GridPoint) → All (λ v. OnString vs v.x v.y 1) vs
+pub vertices_on : (vs : List GridPoint) → AllByRecursion (λ v. OnString vs v.x v.y 1) vs
 vertices_on [] = tt
 vertices_on (v ∷ []) = (at_self v, tt)
 vertices_on (v ∷ (w ∷ ws)) = (inl (start_on (record { p = v; q = w })), ends v (w ∷ ws))
   where
-    ends : (v : GridPoint) (ws : List GridPoint) → All (λ w. OnAny (chain v ws) w.x w.y 1) ws
+    ends : (v : GridPoint) (ws : List GridPoint) → AllByRecursion (λ w. OnAny (chain v ws) w.x w.y 1) ws
     ends v [] = tt
     ends v (w ∷ ws) = (inl (end_on (record { p = v; q = w })), All-weaker (λ u. OnAny (chain w ws) u.x u.y 1) (λ u. OnAny (chain v (w ∷ ws)) u.x u.y 1) (λ u k. inr k) ws (ends w ws))
 
@@ -125,7 +125,7 @@ vertices_on (v ∷ (w ∷ ws)) = (inl (start_on (record { p = v; q = w })), ends
 
 -- the points of a line string belong to Q if its first vertex does and all its longer segments do
 module _ (Q : ℤ → ℤ → ℕ → Type 0) where
-  chain_within : (v : GridPoint) (ws : List GridPoint) → Subset (At v) Q → All (λ t. LongerThanZero t → Subset (On t) Q) (chain v ws) → Subset (OnAny (chain v ws)) Q
+  chain_within : (v : GridPoint) (ws : List GridPoint) → Subset (At v) Q → AllByRecursion (λ t. LongerThanZero t → Subset (On t) Q) (chain v ws) → Subset (OnAny (chain v ws)) Q
   chain_within v [] k h X Y d n o = absurd o
   chain_within v (w ∷ ws) k h X Y d n o =
       let t : Segment = record { p = v; q = w } in
@@ -135,16 +135,16 @@ module _ (Q : ℤ → ℤ → ℕ → Type 0) where
       ] in
       elim o [ inl p ↦ both.0 X Y d n p | inr p ↦ chain_within w ws both.1 h.1 X Y d n p ]
 
-  pub string_within : (v : GridPoint) (ws : List GridPoint) → Subset (At v) Q → All (λ t. LongerThanZero t → Subset (On t) Q) (chain v ws) → Subset (OnString (v ∷ ws)) Q
+  pub string_within : (v : GridPoint) (ws : List GridPoint) → Subset (At v) Q → AllByRecursion (λ t. LongerThanZero t → Subset (On t) Q) (chain v ws) → Subset (OnString (v ∷ ws)) Q
   string_within v [] k h = k
   string_within v (w ∷ ws) k h = chain_within v (w ∷ ws) k h
 
-pub none_longer : (P : Segment → Type 0) (v : GridPoint) (ws : List GridPoint) → All (λ w. v ≡ w) ws → All (λ t. LongerThanZero t → P t) (chain v ws)
+pub none_longer : (P : Segment → Type 0) (v : GridPoint) (ws : List GridPoint) → AllByRecursion (λ w. v ≡ w) ws → AllByRecursion (λ t. LongerThanZero t → P t) (chain v ws)
 none_longer P v [] h = tt
 none_longer P v (w ∷ ws) h = ((λ l. absurd (l h.0)), none_longer P w ws (All-weaker (λ u. v ≡ u) (λ u. w ≡ u) (λ u e. sym h.0 ∙ e) ws h.1))
 
 -- the points of equal vertices are those of the first
-pub equal_at : (v : GridPoint) (ws : List GridPoint) → All (λ w. v ≡ w) ws → Subset (OnString (v ∷ ws)) (At v)
+pub equal_at : (v : GridPoint) (ws : List GridPoint) → AllByRecursion (λ w. v ≡ w) ws → Subset (OnString (v ∷ ws)) (At v)
 equal_at v ws h = string_within (At v) v ws (λ X Y d n a. a) (none_longer (λ t. Subset (On t) (At v)) v ws h)
 
 -- the first longer segment of a chain, which starts at the first vertex, as those before it have length zero
@@ -155,7 +155,7 @@ pub record FirstLonger (Q : ℤ → ℤ → ℕ → Type 0) (v : GridPoint) (ws 
   pub within : Subset (On segment) Q
   pub covered : Covered (chain v ws) segment
 
-pub first_longer : (Q : ℤ → ℤ → ℕ → Type 0) (v : GridPoint) (ws : List GridPoint) → All (λ t. LongerThanZero t → Subset (On t) Q) (chain v ws) → All (λ w. v ≡ w) ws ⊎ FirstLonger Q v ws
+pub first_longer : (Q : ℤ → ℤ → ℕ → Type 0) (v : GridPoint) (ws : List GridPoint) → AllByRecursion (λ t. LongerThanZero t → Subset (On t) Q) (chain v ws) → AllByRecursion (λ w. v ≡ w) ws ⊎ FirstLonger Q v ws
 first_longer Q v [] h = inl tt
 first_longer Q v (w ∷ ws) h =
     let t : Segment = record { p = v; q = w } in

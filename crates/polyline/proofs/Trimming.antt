@@ -2,7 +2,7 @@
 -- changes nothing, the stretch that is left has a gap. It is stated over lists of segments, wherever they are read from.
 use Rattle.std.proofs.Common.{◌≡◌, ℕ, zero, suc, ◌<◌, ◌≤◌, Bool, true, false, cond, ◌⊎◌, List, [], ◌∷◌, map, ℤ, pos, negsuc, ◌-ℤ◌, ◌*ℤ◌, nat_abs, ◌≤ℤ◌, ◌<ℤ◌, sym, refl, ap, ◌∙◌, subst, inl, inr, arith}
 use lib.Signed.{le_z}
-use Rattle.std.specs.List.{AllByRecursion as All}
+use Rattle.std.specs.List.{AllByRecursion}
 use Rattle.std.proofs.ByRecursion.{All-weaker, All-map}
 use Rattle.std.proofs.lemmas.Int.{ints, by_lt_z}
 use Rattle.plane.specs.declared.grid_point.GridPoint.{GridPoint}
@@ -109,7 +109,7 @@ clear_of s lo t f g =
     let o = ordered_in t.p.x t.q.x in
     elim (f g) [ inl h ↦ inl (omega (arith, lin)) | inr h ↦ inr (omega (arith, lin)) ]
 
-gap_x : (s : Segment) → Extends false s → (lo : ℤ) → (span false s).0 ≤ℤ lo → lo <ℤ (span false s).1 → (ts : List Segment) → All (ClearOf false s lo) ts → Covered ts s → ⊥
+gap_x : (s : Segment) → Extends false s → (lo : ℤ) → (span false s).0 ≤ℤ lo → lo <ℤ (span false s).1 → (ts : List Segment) → AllByRecursion (ClearOf false s lo) ts → Covered ts s → ⊥
 gap_x s (inl l) lo p q ts a c =
     let e = ordered_up s.p.x s.q.x l in
     open_gap s l lo (subst (λ (o : ℤ × ℤ). o.0 ≤ℤ lo) e p) (subst (λ (o : ℤ × ℤ). lo <ℤ o.1) e q) ts (All-weaker _ _ (clear_of s lo) ts a) c
@@ -118,7 +118,7 @@ gap_x s (inr l) lo p q ts a c =
     open_gap (reversed s) l lo (subst (λ (o : ℤ × ℤ). o.0 ≤ℤ lo) e p) (subst (λ (o : ℤ × ℤ). lo <ℤ o.1) e q) ts
     (All-weaker _ _ (λ t f g. clear_of s lo t f (along_reversed (reversed s) t g)) ts a) (λ X Y d o h. c X Y d o (on_reversed (reversed s) h))
 
-pub gap : (v : Bool) (s : Segment) → Extends v s → (lo : ℤ) → (span v s).0 ≤ℤ lo → lo <ℤ (span v s).1 → (ts : List Segment) → All (ClearOf v s lo) ts → Covered ts s → ⊥
+pub gap : (v : Bool) (s : Segment) → Extends v s → (lo : ℤ) → (span v s).0 ≤ℤ lo → lo <ℤ (span v s).1 → (ts : List Segment) → AllByRecursion (ClearOf v s lo) ts → Covered ts s → ⊥
 gap false s l lo p q ts a c = gap_x s l lo p q ts a c
 gap true s l lo p q ts a c =
     gap_x (transposed s) l lo p q (map transposed ts)
@@ -212,13 +212,13 @@ round_narrowed s [] l h = omega (arith, lin)
 round_narrowed s (t ∷ us) l h =
     let a = trim_narrowed s t l h in let b = round_narrowed s us (trim_by s l t) a.right in omega (arith, lin)
 
-pub round_remains : (s : Segment) → Extends (is_vertical s) s → (ts us : List Segment) → All (Covered ts) us → (l : ℤ × ℤ) → l.0 ≤ℤ l.1 → Remains (is_vertical s) ts s l → Remains (is_vertical s) ts s (round s l us)
+pub round_remains : (s : Segment) → Extends (is_vertical s) s → (ts us : List Segment) → AllByRecursion (Covered ts) us → (l : ℤ × ℤ) → l.0 ≤ℤ l.1 → Remains (is_vertical s) ts s l → Remains (is_vertical s) ts s (round s l us)
 round_remains s n ts [] m l h k = k
 round_remains s n ts (t ∷ us) m l h k =
     round_remains s n ts us m.1 (trim_by s l t) (trim_narrowed s t l h).right
     (elim (trim_cases s t l h) [ inl w ↦ remains_trim (is_vertical s) ts s t n w.0 m.0 l (trim_by s l t) w.1 k | inr w ↦ subst (Remains (is_vertical s) ts s) (sym w.1) k ])
 
-pub round_clear : (s : Segment) (us : List Segment) (l : ℤ × ℤ) → l.0 <ℤ l.1 → round s l us ≡ l → All (ClearOf (is_vertical s) s l.0) us
+pub round_clear : (s : Segment) (us : List Segment) (l : ℤ × ℤ) → l.0 <ℤ l.1 → round s l us ≡ l → AllByRecursion (ClearOf (is_vertical s) s l.0) us
 round_clear s [] l h e = tt
 round_clear s (t ∷ us) l h e =
     let k : l.0 ≤ℤ l.1 = omega (arith, lin) in

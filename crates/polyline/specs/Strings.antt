@@ -1,6 +1,6 @@
 -- Line strings, by their vertices.
 use Rattle.std.specs.Prelude.{◌≡◌, ℕ, ◌⊎◌, List, [], ◌∷◌, map, ℤ}
-use Rattle.std.specs.List.{AllByRecursion as All}
+use Rattle.std.specs.List.{AllByRecursion}
 use Rattle.plane.specs.declared.grid_point.GridPoint.{GridPoint}
 use Rattle.plane.specs.Points.{Segment, Touches, LongerThanZero}
 use Rattle.plane.specs.Reach.{read_point}
@@ -34,7 +34,7 @@ Closed (v ∷ vs) = v ≡ last v vs
 -- all vertices are equal, so that no segment is longer than zero
 abbrev pub AllEqual : List GridPoint → Type 0
 AllEqual [] = Unit {0}
-AllEqual (v ∷ vs) = All (λ w. v ≡ w) vs
+AllEqual (v ∷ vs) = AllByRecursion (λ w. v ≡ w) vs
 
 -- the points of a line string: those of its segments; a single vertex is its own point
 abbrev pub OnString : List GridPoint → ℤ → ℤ → ℕ → Type 0
@@ -55,8 +55,8 @@ pub record StringInterior (vs : List GridPoint) (X Y : ℤ) (d : ℕ) : Type 0 w
 -- how a segment contains a line string: there is a vertex, all vertices touch, and if all are equal, they are contained
 pub record SegmentContainsString (s : Segment) (vs : List GridPoint) : Type 0 where
   pub some : vs ≡ [] → ⊥
-  pub touch : All (Touches s) vs
-  pub equal : AllEqual vs → All (λ v. Interior s v.x v.y 1) vs
+  pub touch : AllByRecursion (Touches s) vs
+  pub equal : AllEqual vs → AllByRecursion (λ v. Interior s v.x v.y 1) vs
 
 -- how a line string contains a segment: a longer one if it is covered, one of length zero as its grid point
 pub record StringContainsSegment (vs : List GridPoint) (t : Segment) : Type 0 where
@@ -67,5 +67,5 @@ pub record StringContainsSegment (vs : List GridPoint) (t : Segment) : Type 0 wh
 -- vertices, which are equal then, are contained
 pub record StringContainsString (vs ws : List GridPoint) : Type 0 where
   pub some : ws ≡ [] → ⊥
-  pub longer : All (λ t. LongerThanZero t → Covered (segments vs) t) (segments ws)
-  pub equal : AllEqual ws → All (λ w. StringInterior vs w.x w.y 1) ws
+  pub longer : AllByRecursion (λ t. LongerThanZero t → Covered (segments vs) t) (segments ws)
+  pub equal : AllEqual ws → AllByRecursion (λ w. StringInterior vs w.x w.y 1) ws

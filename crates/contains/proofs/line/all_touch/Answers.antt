@@ -1,5 +1,5 @@
 use Rattle.std.proofs.Common.{◌<◌, List, length, sym, subst, arith}
-use Rattle.std.specs.List.{AllByRecursion as All}
+use Rattle.std.specs.List.{AllByRecursion}
 use Rattle.std.proofs.ByRecursion.{All-get_or, All-more}
 use Rattle.std.proofs.lemmas.List.{take_all}
 use Rattle.plane.specs.declared.grid_point.GridPoint.{GridPoint}
@@ -26,4 +26,4 @@ loop-point-preserved g c =
 pub returns : goal.returns
 returns g c =
     let s = segment g.T.CoordNum.units c.args.line.now in
-    subst (λ (ps : List GridPoint). All (λ p. Touches s (read_point p)) ps) (take_all c.loop-point.point-index c.args.points.now (omega arith)) c.loop-point.invariant
+    subst (λ (ps : List GridPoint). AllByRecursion (λ p. Touches s (read_point p)) ps) (take_all c.loop-point.point-index c.args.points.now (omega arith)) c.loop-point.invariant

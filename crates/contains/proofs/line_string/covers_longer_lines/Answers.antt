@@ -1,5 +1,5 @@
 use Rattle.std.proofs.Common.{◌≡◌, ℕ, ◌+◌, ◌<◌, List, ◌∷◌, length, get_or, drop, sym, subst, arith}
-use Rattle.std.specs.List.{AllByRecursion as All}
+use Rattle.std.specs.List.{AllByRecursion}
 use Rattle.plane.specs.declared.grid_point.GridPoint.{GridPoint}
 use Rattle.plane.specs.Points.{Segment, LongerThanZero}
 use Rattle.plane.specs.Reach.{read_point}
@@ -20,7 +20,7 @@ pub returns-then-not-is_point_or_covered : goal.returns-then-not-is_point_or_cov
 returns-then-not-is_point_or_covered g c =
     let P = Holds c.args.line_string.now.points.now in
     let e = left (read_point c.loop-point.start) c.args.rest.now c.loop-point.point-index (omega arith) in
-    λ a. c.if-not-is_point_or_covered.ensures (subst P (sym c.from_grid-line.ensures) (subst (All P) e (c.loop-point.invariant.1 a)).0)
+    λ a. c.if-not-is_point_or_covered.ensures (subst P (sym c.from_grid-line.ensures) (subst (AllByRecursion P) e (c.loop-point.invariant.1 a)).0)
 
 pub loop-point-init : goal.loop-point-init
 loop-point-init g c = ((λ h. h), (λ h. h))
@@ -30,10 +30,10 @@ loop-point-preserved g c =
     let P = Holds c.args.line_string.now.points.now in
     let e = left (read_point c.loop-point.start) c.args.rest.now c.loop-point.point-index (omega arith) in
     let p = subst P c.from_grid-line.ensures c.if-not-is_point_or_covered.ensures in
-    ((λ h. c.loop-point.invariant.0 (subst (All P) (sym e) (p, h))), (λ a. (subst (All P) e (c.loop-point.invariant.1 a)).1))
+    ((λ h. c.loop-point.invariant.0 (subst (AllByRecursion P) (sym e) (p, h))), (λ a. (subst (AllByRecursion P) e (c.loop-point.invariant.1 a)).1))
 
 pub returns : goal.returns
 returns g c =
     let P = Holds c.args.line_string.now.points.now in
     let e = chain_ends (λ (ss : List Segment). ss) (read_point c.loop-point.start) c.args.rest.now c.loop-point.point-index (omega arith) in
-    c.loop-point.invariant.0 (subst (All P) (sym e) tt)
+    c.loop-point.invariant.0 (subst (AllByRecursion P) (sym e) tt)

@@ -1,5 +1,5 @@
 use Rattle.std.proofs.Common.{◌≡◌, ◌<◌, true, List, length, sym, ap, ◌∙◌, subst, arith}
-use Rattle.std.specs.List.{AllByRecursion as All}
+use Rattle.std.specs.List.{AllByRecursion}
 use Rattle.std.proofs.ByRecursion.{All-get_or, All-more}
 use Rattle.std.proofs.lemmas.List.{take_all}
 use Rattle.plane.specs.declared.grid_point.GridPoint.{GridPoint}
@@ -40,5 +40,5 @@ returns g c =
     let p = c.in-Some.first.now in
     let rest = c.in-Some.rest.now in
     (equal_to_first c.args.self.now.points.now p rest c.in-Some.ensures.cases.0).0
-    (subst (λ (v : GridPoint). All (λ q. v ≡ read_point q) rest) c.from_grid-first.ensures
-    (subst (λ (qs : List GridPoint). All (λ q. grid_point u c.from_grid-first.result ≡ read_point q) qs) (take_all c.loop-point.point-index rest (omega arith)) c.loop-point.invariant))
+    (subst (λ (v : GridPoint). AllByRecursion (λ q. v ≡ read_point q) rest) c.from_grid-first.ensures
+    (subst (λ (qs : List GridPoint). AllByRecursion (λ q. grid_point u c.from_grid-first.result ≡ read_point q) qs) (take_all c.loop-point.point-index rest (omega arith)) c.loop-point.invariant))
