@@ -31,7 +31,7 @@ impl<T: GeoNum> Contains<Coord<T>> for Line<T> {
         if *coord == self.end {
             return false;
         }
-        <Line<_> as Intersects<Coord<_>>>::intersects(self, coord)
+        self.intersects(coord)
     }
 }
 
@@ -44,12 +44,12 @@ impl<T: GeoNum> Contains<Line<T>> for Line<T> {
         ensures ends { Iff (Touches (segment T.CoordNum.units self.now) (grid_point T.CoordNum.units line.now.start) × Touches (segment T.CoordNum.units self.now) (grid_point T.CoordNum.units line.now.end)) (Subset (On (segment T.CoordNum.units line.now)) (On (segment T.CoordNum.units self.now))) }
     {
         if line.start == line.end {
-            return <Line<_> as Contains<Coord<_>>>::contains(self, &line.start);
+            return self.contains(&line.start);
         }
-        if !<Line<_> as Intersects<Coord<_>>>::intersects(self, &line.start) {
+        if !self.intersects(&line.start) {
             return false;
         }
-        <Line<_> as Intersects<Coord<_>>>::intersects(self, &line.end)
+        self.intersects(&line.end)
     }
 }
 
@@ -66,7 +66,7 @@ impl<'a, T: GeoNum> Contains<LineString<'a, T>> for Line<T> {
             return false;
         }
         if line_string.all_equal() {
-            <Line<_> as Contains<Coord<_>>>::contains(self, &Coord::from_grid(*first))
+            self.contains(&Coord::from_grid(*first))
         } else {
             true
         }
@@ -78,7 +78,7 @@ fn all_touch<T: GeoNum>(line: &Line<T>, points: &[GridPoint]) -> bool
     ensures { Reflects result (AllByRecursion (λ p. Touches (segment T.CoordNum.units line.now) (read_point p)) points.now) }
 {
     for point in points {
-        if !<Line<_> as Intersects<Coord<_>>>::intersects(line, &Coord::from_grid(*point)) {
+        if !line.intersects(&Coord::from_grid(*point)) {
             return false;
         }
     }

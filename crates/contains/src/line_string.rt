@@ -37,7 +37,7 @@ impl<'a, T: GeoNum> Contains<Line<T>> for LineString<'a, T> {
         ensures rule { Reflects result (StringContainsSegment (vertices self.now.points.now) (segment T.CoordNum.units line.now)) }
     {
         if line.start == line.end {
-            return <LineString<'_, _> as Contains<Coord<_>>>::contains(self, &line.start);
+            return self.contains(&line.start);
         }
         self.covers(line)
     }
@@ -53,10 +53,7 @@ impl<'a, 'b, T: GeoNum> Contains<LineString<'b, T>> for LineString<'a, T> {
             return false;
         };
         if rhs.all_equal() {
-            return <LineString<'_, _> as Contains<Coord<_>>>::contains(
-                self,
-                &Coord::from_grid(*first),
-            );
+            return self.contains(&Coord::from_grid(*first));
         }
         covers_longer_lines(self, *first, rest)
     }

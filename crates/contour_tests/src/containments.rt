@@ -17,13 +17,7 @@ fn coords<T: GeoNum>(
     cases: &[(GridPoint, bool)],
 ) -> Result<(), Fail> {
     for (p, expected) in cases {
-        assert_eq!(rt;
-            <LineString<'_, _> as Contains<Coord<_>>>::contains(
-                &LineString::<T>::new(points),
-                &at(*p)
-            ),
-            *expected
-        );
+        assert_eq!(rt; LineString::<T>::new(points).contains(&at(*p)), *expected);
     }
     Ok(())
 }
@@ -31,26 +25,17 @@ fn coords<T: GeoNum>(
 fn lines<T: GeoNum>(rt: &impl Abort, points: &[GridPoint], cases: &[(GridPoint, GridPoint, bool)]) {
     for (a, b, expected) in cases {
         let inner: Line<T> = line(*a, *b);
-        assert_eq!(rt;
-            <LineString<'_, _> as Contains<Line<_>>>::contains(
-                &LineString::<T>::new(points),
-                &inner
-            ),
-            *expected
-        );
+        assert_eq!(rt; LineString::<T>::new(points).contains(&inner), *expected);
     }
 }
 
 fn holds<T: GeoNum>(outer: &[GridPoint], inner: &[GridPoint]) -> bool {
-    <LineString<'_, _> as Contains<LineString<'_, _>>>::contains(
-        &LineString::<T>::new(outer),
-        &LineString::<T>::new(inner),
-    )
+    LineString::<T>::new(outer).contains(&LineString::<T>::new(inner))
 }
 
 fn line_holds<T: GeoNum>(inner: &[GridPoint]) -> bool {
     let outer: Line<T> = line(point(0, 0), point(8, 4));
-    <Line<_> as Contains<LineString<'_, _>>>::contains(&outer, &LineString::<T>::new(inner))
+    outer.contains(&LineString::<T>::new(inner))
 }
 
 // It ends on its first segment.

@@ -8,12 +8,12 @@ use Rattle.plane.specs.Orient.{det, orientation}
 use Rattle.plane.specs.Points.{Segment, Touches, LongerThanZero}
 use Rattle.plane.specs.Reflects.{Reflects}
 use Rattle.plane.specs.Sets.{Interior, Box, StrictlyInBox}
-use Rattle.plane.proofs.Answers.{reflects_same}
+use Rattle.plane.proofs.Answers.{reflects_same, and_reflects, not_reflects, one_answer, or_reflects}
 use Rattle.plane.proofs.Containment.{zero_reflects, at_is, end_not_interior, strictly_held_reflects}
 use Rattle.plane.proofs.Orientations.{left_turn, right_turn, left_of, right_of, left_not_collinear, right_not_collinear}
 use Rattle.polyline.specs.Tests.{same, touches}
 use Rattle.polyline.specs.Segments.{OnAny}
-use Rattle.polyline.proofs.Tests.{and_reflects, or_reflects, not_reflects, one_answer, lt_reflects, same_reflects, touches_reflects, touches_any_reflects}
+use Rattle.polyline.proofs.Tests.{lt_reflects, same_reflects, touches_reflects, touches_any_reflects}
 use Rattle.geometry.specs.Shapes.{sides, outline}
 use Rattle.coordinate_position.specs.declared.position.Membership.{Membership}
 use Rattle.coordinate_position.specs.Shapes.{Shape, membership, coord_shape, line_shape, box_shape, one_sign, TurnAlike, TurnsAgree, triangle_shape}

@@ -5,14 +5,14 @@ use Rattle.plane.specs.Points.{Segment}
 use Rattle.plane.specs.Reach.{read_point}
 use Rattle.plane.specs.Reflects.{Reflects, Iff}
 use Rattle.plane.specs.Sets.{At}
-use Rattle.plane.proofs.Answers.{reflects_same}
+use Rattle.plane.proofs.Answers.{reflects_same, and_reflects, not_reflects, or_reflects}
 use Rattle.plane.proofs.Segments.{at_self}
 use Rattle.plane.proofs.Containment.{at_is}
 use Rattle.polyline.specs.Segments.{OnAny}
 use Rattle.polyline.specs.Strings.{vertices, segments, last, Closed, AtEnd, StringInterior}
 use Rattle.polyline.specs.Tests.{same, touches_any}
 use Rattle.polyline.proofs.Chains.{origin}
-use Rattle.polyline.proofs.Tests.{and_reflects, or_reflects, not_reflects, same_reflects, touches_any_reflects}
+use Rattle.polyline.proofs.Tests.{same_reflects, touches_any_reflects}
 use Rattle.coordinate_position.specs.declared.position.Membership.{Membership}
 use Rattle.coordinate_position.specs.Shapes.{membership, line_shape, string_shape}
 use Rattle.coordinate_position.proofs.Memberships.{same_membership, line_inside, line_odd}

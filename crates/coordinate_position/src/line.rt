@@ -39,7 +39,7 @@ impl<T: GeoNum> CoordinatePosition for Line<T> {
             };
         }
         Membership {
-            inside: <Line<_> as Intersects<Coord<_>>>::intersects(self, coord),
+            inside: self.intersects(coord),
             odd: false,
         }
     }

@@ -27,7 +27,7 @@ impl<T: GeoNum> CoordinatePosition for Rect<T> {
         ensures inside { Reflects result.inside (StrictlyInBox (box T.CoordNum.units self.now) (T.CoordNum.units coord.now.x) (T.CoordNum.units coord.now.y) 1) }
         ensures boundary { Reflects result.odd (OnAny (outline (box T.CoordNum.units self.now)) (T.CoordNum.units coord.now.x) (T.CoordNum.units coord.now.y) 1) }
     {
-        if <Rect<_> as Contains<Coord<_>>>::contains(self, coord) {
+        if self.contains(coord) {
             return Membership {
                 inside: true,
                 odd: false,
@@ -35,7 +35,7 @@ impl<T: GeoNum> CoordinatePosition for Rect<T> {
         }
         Membership {
             inside: false,
-            odd: <Rect<_> as Intersects<Coord<_>>>::intersects(self, coord),
+            odd: self.intersects(coord),
         }
     }
 }

@@ -61,5 +61,5 @@ fn touches_a_side<T: GeoNum>(triangle: &Triangle<T>, coord: &Coord<T>) -> bool
 fn touches_side<T: GeoNum>(start: Coord<T>, end: Coord<T>, coord: &Coord<T>) -> bool
     ensures { Reflects result (Touches (record { p = grid_point T.CoordNum.units start; q = grid_point T.CoordNum.units end }) (grid_point T.CoordNum.units coord.now)) }
 {
-    <Line<_> as Intersects<Coord<_>>>::intersects(&Line::new(start, end), coord)
+    Line::new(start, end).intersects(coord)
 }

@@ -8,42 +8,12 @@ use std::process::Abort;
 use std::test::*;
 
 fn line_coords<T: GeoNum>(rt: &impl Abort) -> Result<(), Fail> {
-    assert!(rt;
-        <geometry::line::Line<_> as Contains<scalar::coord::Coord<_>>>::contains(
-            &line::<T>(0, 0, 4, 2),
-            &at(2, 1)
-        )
-    );
-    assert!(rt;
-        !<geometry::line::Line<_> as Contains<scalar::coord::Coord<_>>>::contains(
-            &line::<T>(0, 0, 4, 2),
-            &at(0, 0)
-        )
-    );
-    assert!(rt;
-        !<geometry::line::Line<_> as Contains<scalar::coord::Coord<_>>>::contains(
-            &line::<T>(0, 0, 4, 2),
-            &at(4, 2)
-        )
-    );
-    assert!(rt;
-        !<geometry::line::Line<_> as Contains<scalar::coord::Coord<_>>>::contains(
-            &line::<T>(0, 0, 4, 2),
-            &at(2, 2)
-        )
-    );
-    assert!(rt;
-        <geometry::line::Line<_> as Contains<scalar::coord::Coord<_>>>::contains(
-            &line::<T>(3, 3, 3, 3),
-            &at(3, 3)
-        )
-    );
-    assert!(rt;
-        !<geometry::line::Line<_> as Contains<scalar::coord::Coord<_>>>::contains(
-            &line::<T>(3, 3, 3, 3),
-            &at(3, 4)
-        )
-    );
+    assert!(rt; line::<T>(0, 0, 4, 2).contains(&at(2, 1)));
+    assert!(rt; !line::<T>(0, 0, 4, 2).contains(&at(0, 0)));
+    assert!(rt; !line::<T>(0, 0, 4, 2).contains(&at(4, 2)));
+    assert!(rt; !line::<T>(0, 0, 4, 2).contains(&at(2, 2)));
+    assert!(rt; line::<T>(3, 3, 3, 3).contains(&at(3, 3)));
+    assert!(rt; !line::<T>(3, 3, 3, 3).contains(&at(3, 4)));
     Ok(())
 }
 
@@ -54,48 +24,13 @@ fn lines_over_coordinates(rt: HostRuntime) -> Result<(), Fail> {
 }
 
 fn line_lines<T: GeoNum>(rt: &impl Abort) -> Result<(), Fail> {
-    assert!(rt;
-        <geometry::line::Line<_> as Contains<geometry::line::Line<_>>>::contains(
-            &line::<T>(0, 0, 4, 2),
-            &line(4, 2, 2, 1)
-        )
-    );
-    assert!(rt;
-        <geometry::line::Line<_> as Contains<geometry::line::Line<_>>>::contains(
-            &line::<T>(0, 0, 4, 2),
-            &line(4, 2, 0, 0)
-        )
-    );
-    assert!(rt;
-        !<geometry::line::Line<_> as Contains<geometry::line::Line<_>>>::contains(
-            &line::<T>(0, 0, 4, 2),
-            &line(2, 1, 6, 3)
-        )
-    );
-    assert!(rt;
-        <geometry::line::Line<_> as Contains<geometry::line::Line<_>>>::contains(
-            &line::<T>(0, 0, 4, 2),
-            &line(2, 1, 2, 1)
-        )
-    );
-    assert!(rt;
-        !<geometry::line::Line<_> as Contains<geometry::line::Line<_>>>::contains(
-            &line::<T>(0, 0, 4, 2),
-            &line(4, 2, 4, 2)
-        )
-    );
-    assert!(rt;
-        <geometry::line::Line<_> as Contains<geometry::line::Line<_>>>::contains(
-            &line::<T>(3, 3, 3, 3),
-            &line(3, 3, 3, 3)
-        )
-    );
-    assert!(rt;
-        !<geometry::line::Line<_> as Contains<geometry::line::Line<_>>>::contains(
-            &line::<T>(3, 3, 3, 3),
-            &line(3, 3, 4, 3)
-        )
-    );
+    assert!(rt; line::<T>(0, 0, 4, 2).contains(&line(4, 2, 2, 1)));
+    assert!(rt; line::<T>(0, 0, 4, 2).contains(&line(4, 2, 0, 0)));
+    assert!(rt; !line::<T>(0, 0, 4, 2).contains(&line(2, 1, 6, 3)));
+    assert!(rt; line::<T>(0, 0, 4, 2).contains(&line(2, 1, 2, 1)));
+    assert!(rt; !line::<T>(0, 0, 4, 2).contains(&line(4, 2, 4, 2)));
+    assert!(rt; line::<T>(3, 3, 3, 3).contains(&line(3, 3, 3, 3)));
+    assert!(rt; !line::<T>(3, 3, 3, 3).contains(&line(3, 3, 4, 3)));
     Ok(())
 }
 
@@ -106,30 +41,10 @@ fn lines_over_lines(rt: HostRuntime) -> Result<(), Fail> {
 }
 
 fn rect_coords<T: CoordNum>(rt: &impl Abort) -> Result<(), Fail> {
-    assert!(rt;
-        <geometry::rect::Rect<_> as Contains<scalar::coord::Coord<_>>>::contains(
-            &rect::<T>(0, 0, 4, 4),
-            &at(1, 3)
-        )
-    );
-    assert!(rt;
-        !<geometry::rect::Rect<_> as Contains<scalar::coord::Coord<_>>>::contains(
-            &rect::<T>(0, 0, 4, 4),
-            &at(0, 3)
-        )
-    );
-    assert!(rt;
-        !<geometry::rect::Rect<_> as Contains<scalar::coord::Coord<_>>>::contains(
-            &rect::<T>(0, 0, 4, 4),
-            &at(2, 4)
-        )
-    );
-    assert!(rt;
-        !<geometry::rect::Rect<_> as Contains<scalar::coord::Coord<_>>>::contains(
-            &rect::<T>(0, 2, 4, 2),
-            &at(2, 2)
-        )
-    );
+    assert!(rt; rect::<T>(0, 0, 4, 4).contains(&at(1, 3)));
+    assert!(rt; !rect::<T>(0, 0, 4, 4).contains(&at(0, 3)));
+    assert!(rt; !rect::<T>(0, 0, 4, 4).contains(&at(2, 4)));
+    assert!(rt; !rect::<T>(0, 2, 4, 2).contains(&at(2, 2)));
     Ok(())
 }
 
@@ -140,42 +55,12 @@ fn rectangles_over_coordinates(rt: HostRuntime) -> Result<(), Fail> {
 }
 
 fn rect_rects<T: CoordNum>(rt: &impl Abort) -> Result<(), Fail> {
-    assert!(rt;
-        <geometry::rect::Rect<_> as Contains<geometry::rect::Rect<_>>>::contains(
-            &rect::<T>(0, 0, 4, 4),
-            &rect(0, 0, 4, 4)
-        )
-    );
-    assert!(rt;
-        <geometry::rect::Rect<_> as Contains<geometry::rect::Rect<_>>>::contains(
-            &rect::<T>(0, 0, 4, 4),
-            &rect(0, 2, 4, 2)
-        )
-    );
-    assert!(rt;
-        !<geometry::rect::Rect<_> as Contains<geometry::rect::Rect<_>>>::contains(
-            &rect::<T>(0, 0, 1, 1),
-            &rect(0, 0, 1, 0)
-        )
-    );
-    assert!(rt;
-        <geometry::rect::Rect<_> as Contains<geometry::rect::Rect<_>>>::contains(
-            &rect::<T>(0, 0, 4, 4),
-            &rect(2, 2, 2, 2)
-        )
-    );
-    assert!(rt;
-        !<geometry::rect::Rect<_> as Contains<geometry::rect::Rect<_>>>::contains(
-            &rect::<T>(0, 0, 4, 4),
-            &rect(1, 1, 5, 2)
-        )
-    );
-    assert!(rt;
-        !<geometry::rect::Rect<_> as Contains<geometry::rect::Rect<_>>>::contains(
-            &rect::<T>(0, 2, 4, 2),
-            &rect(1, 2, 3, 2)
-        )
-    );
+    assert!(rt; rect::<T>(0, 0, 4, 4).contains(&rect(0, 0, 4, 4)));
+    assert!(rt; rect::<T>(0, 0, 4, 4).contains(&rect(0, 2, 4, 2)));
+    assert!(rt; !rect::<T>(0, 0, 1, 1).contains(&rect(0, 0, 1, 0)));
+    assert!(rt; rect::<T>(0, 0, 4, 4).contains(&rect(2, 2, 2, 2)));
+    assert!(rt; !rect::<T>(0, 0, 4, 4).contains(&rect(1, 1, 5, 2)));
+    assert!(rt; !rect::<T>(0, 2, 4, 2).contains(&rect(1, 2, 3, 2)));
     Ok(())
 }
 

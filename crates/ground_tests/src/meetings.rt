@@ -11,8 +11,8 @@ use std::test::*;
 
 // Both ways round.
 fn lines_meet<T: GeoNum>(rt: &impl Abort, a: Line<T>, b: Line<T>, yes: bool) -> Result<(), Fail> {
-    assert_eq!(rt; <Line<_> as Intersects<Line<_>>>::intersects(&a, &b), yes);
-    assert_eq!(rt; <Line<_> as Intersects<Line<_>>>::intersects(&b, &a), yes);
+    assert_eq!(rt; a.intersects(&b), yes);
+    assert_eq!(rt; b.intersects(&a), yes);
     Ok(())
 }
 
@@ -55,8 +55,8 @@ fn rect_meets_line<T: GeoNum>(
     l: Line<T>,
     yes: bool,
 ) -> Result<(), Fail> {
-    assert_eq!(rt; <Rect<_> as Intersects<Line<_>>>::intersects(&r, &l), yes);
-    assert_eq!(rt; <Line<_> as Intersects<Rect<_>>>::intersects(&l, &r), yes);
+    assert_eq!(rt; r.intersects(&l), yes);
+    assert_eq!(rt; l.intersects(&r), yes);
     Ok(())
 }
 
@@ -86,18 +86,10 @@ fn rectangles_with_lines(rt: HostRuntime) -> Result<(), Fail> {
 }
 
 fn rects_meet<T: CoordNum>(rt: &impl Abort) -> Result<(), Fail> {
-    assert!(rt;
-        <Rect<_> as Intersects<Rect<_>>>::intersects(&rect::<T>(0, 0, 1, 1), &rect(1, 1, 2, 2))
-    );
-    assert!(rt;
-        !<Rect<_> as Intersects<Rect<_>>>::intersects(&rect::<T>(0, 0, 1, 1), &rect(2, 0, 3, 1))
-    );
-    assert!(rt;
-        <Rect<_> as Intersects<Rect<_>>>::intersects(&rect::<T>(0, 0, 9, 0), &rect(4, -3, 4, 3))
-    );
-    assert!(rt;
-        !<Rect<_> as Intersects<Rect<_>>>::intersects(&rect::<T>(0, 0, 1, 1), &rect(0, 2, 1, 3))
-    );
+    assert!(rt; rect::<T>(0, 0, 1, 1).intersects(&rect(1, 1, 2, 2)));
+    assert!(rt; !rect::<T>(0, 0, 1, 1).intersects(&rect(2, 0, 3, 1)));
+    assert!(rt; rect::<T>(0, 0, 9, 0).intersects(&rect(4, -3, 4, 3)));
+    assert!(rt; !rect::<T>(0, 0, 1, 1).intersects(&rect(0, 2, 1, 3)));
     Ok(())
 }
 
@@ -108,48 +100,13 @@ fn rectangles_with_rectangles(rt: HostRuntime) -> Result<(), Fail> {
 }
 
 fn coords_meet<T: GeoNum>(rt: &impl Abort) -> Result<(), Fail> {
-    assert!(rt;
-        <scalar::coord::Coord<_> as Intersects<scalar::coord::Coord<_>>>::intersects(
-            &at::<T>(1, 2),
-            &at(1, 2)
-        )
-    );
-    assert!(rt;
-        !<scalar::coord::Coord<_> as Intersects<scalar::coord::Coord<_>>>::intersects(
-            &at::<T>(1, 2),
-            &at(2, 1)
-        )
-    );
-    assert!(rt;
-        <scalar::coord::Coord<_> as Intersects<Line<_>>>::intersects(
-            &at::<T>(2, 1),
-            &line(0, 0, 4, 2)
-        )
-    );
-    assert!(rt;
-        !<Line<_> as Intersects<scalar::coord::Coord<_>>>::intersects(
-            &line::<T>(0, 0, 4, 2),
-            &at(6, 3)
-        )
-    );
-    assert!(rt;
-        !<Line<_> as Intersects<scalar::coord::Coord<_>>>::intersects(
-            &line::<T>(3, 3, 3, 3),
-            &at(3, 4)
-        )
-    );
-    assert!(rt;
-        <scalar::coord::Coord<_> as Intersects<Rect<_>>>::intersects(
-            &at::<T>(4, 0),
-            &rect(0, 0, 4, 4)
-        )
-    );
-    assert!(rt;
-        !<Rect<_> as Intersects<scalar::coord::Coord<_>>>::intersects(
-            &rect::<T>(0, 0, 4, 4),
-            &at(5, 2)
-        )
-    );
+    assert!(rt; at::<T>(1, 2).intersects(&at(1, 2)));
+    assert!(rt; !at::<T>(1, 2).intersects(&at(2, 1)));
+    assert!(rt; at::<T>(2, 1).intersects(&line(0, 0, 4, 2)));
+    assert!(rt; !line::<T>(0, 0, 4, 2).intersects(&at(6, 3)));
+    assert!(rt; !line::<T>(3, 3, 3, 3).intersects(&at(3, 4)));
+    assert!(rt; at::<T>(4, 0).intersects(&rect(0, 0, 4, 4)));
+    assert!(rt; !rect::<T>(0, 0, 4, 4).intersects(&at(5, 2)));
     Ok(())
 }
 

@@ -24,7 +24,7 @@ impl<T: GeoNum> Intersects<Line<T>> for Coord<T> {
     fn intersects(&self, rhs: &Line<T>) -> bool
         ensures points { Reflects result (Common (At (grid_point T.CoordNum.units self.now)) (On (segment T.CoordNum.units rhs.now))) }
     {
-        <Line<_> as Intersects<Coord<_>>>::intersects(rhs, self)
+        Line::intersects(rhs, self)
     }
 }
 
@@ -32,6 +32,6 @@ impl<T: CoordNum> Intersects<Rect<T>> for Coord<T> {
     fn intersects(&self, rhs: &Rect<T>) -> bool
         ensures points { Reflects result (Common (At (grid_point T.CoordNum.units self.now)) (InBox (box T.CoordNum.units rhs.now))) }
     {
-        <Rect<_> as Intersects<Coord<_>>>::intersects(rhs, self)
+        Rect::intersects(rhs, self)
     }
 }

@@ -47,7 +47,7 @@ impl<T: GeoNum> Intersects<Line<T>> for Line<T> {
     {
         // Special case: self is a point.
         if self.start == self.end {
-            return <Line<_> as Intersects<Coord<_>>>::intersects(line, &self.start);
+            return line.intersects(&self.start);
         }
         let check_1_1 = T::Ker::orient2d(self.start, self.end, line.start);
         let check_1_2 = T::Ker::orient2d(self.start, self.end, line.end);
@@ -68,6 +68,6 @@ impl<T: GeoNum> Intersects<Rect<T>> for Line<T> {
     fn intersects(&self, rhs: &Rect<T>) -> bool
         ensures points { Reflects result (Common (On (segment T.CoordNum.units self.now)) (InBox (box T.CoordNum.units rhs.now))) }
     {
-        <Rect<_> as Intersects<Line<_>>>::intersects(rhs, self)
+        rhs.intersects(self)
     }
 }

@@ -48,7 +48,7 @@ impl<T: GeoNum> Intersects<Line<T>> for Rect<T> {
     fn intersects(&self, rhs: &Line<T>) -> bool
         ensures points { Reflects result (Common (InBox (box T.CoordNum.units self.now)) (On (segment T.CoordNum.units rhs.now))) }
     {
-        if !<Rect<_> as Intersects<Rect<_>>>::intersects(self, &Rect::new(rhs.start, rhs.end)) {
+        if !self.intersects(&Rect::new(rhs.start, rhs.end)) {
             return false;
         }
         // o3--o2

@@ -31,7 +31,7 @@ fn is_touched<T: GeoNum>(start: GridPoint, end: GridPoint, coord: &Coord<T>) -> 
     if !in_ranges(coord.to_grid(), start, end) {
         return false;
     }
-    <Line<_> as Intersects<Coord<_>>>::intersects(&Line::from_grid(start, end), coord)
+    Line::from_grid(start, end).intersects(coord)
 }
 
 pub(crate) fn any_touched<T: GeoNum>(points: &[GridPoint], coord: &Coord<T>) -> bool

@@ -11,4 +11,4 @@ pub mod Orientations
 pub mod Segments
 pub mod Rectangles
 pub mod Containment
-pub mod Turns
+pub mod Enums

@@ -11,9 +11,10 @@ use Rattle.plane.proofs.Integers.{lin}
 use Rattle.plane.proofs.Collinear.{on_ranges}
 use Rattle.plane.proofs.Orientations.{left_of, right_of, collinear_zero, turn}
 use Rattle.plane.proofs.Segments.{touch_reflects, touch_collinear}
+use Rattle.plane.proofs.Answers.{and_reflects, one_answer}
 use Rattle.polyline.specs.Tests.{touches}
 use Rattle.polyline.specs.Winding.{upward, downward, crossing}
-use Rattle.polyline.proofs.Tests.{and_reflects, one_answer, le_reflects, lt_reflects, touches_reflects}
+use Rattle.polyline.proofs.Tests.{le_reflects, lt_reflects, touches_reflects}
 use Rattle.polygon.specs.declared.passing.Passing.TheVariants.{Touched, Upward, Downward, Clear}
 use Rattle.polygon.specs.Passings.{Passes}
 

@@ -4,8 +4,7 @@ use mathlib.Core.Bool.{false≢true}
 use Rattle.std.specs.List.{AllByRecursion}
 use Rattle.plane.specs.declared.grid_point.GridPoint.{GridPoint}
 use Rattle.plane.specs.Reflects.{Reflects, Iff}
-use Rattle.plane.proofs.Answers.{reflects_same}
-use Rattle.polyline.proofs.Tests.{one_answer}
+use Rattle.plane.proofs.Answers.{reflects_same, one_answer}
 use Rattle.coordinate_position.specs.declared.position.CoordPos.{CoordPos}
 use Rattle.coordinate_position.specs.declared.position.CoordPos.TheVariants.{OnBoundary, Inside, Outside}
 use Rattle.coordinate_position.specs.declared.position.Membership.{Membership}

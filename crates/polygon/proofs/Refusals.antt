@@ -3,8 +3,9 @@ use Rattle.std.proofs.Common.{◌≡◌, ℕ, ◌+◌, Bool, true, false, cond, 
 use Rattle.std.specs.List.{AllByRecursion}
 use Rattle.plane.specs.declared.grid_point.GridPoint.{GridPoint}
 use Rattle.plane.specs.Reflects.{Reflects, Iff}
+use Rattle.plane.proofs.Answers.{one_answer}
 use Rattle.polyline.specs.Strings.{last, Closed}
-use Rattle.polyline.proofs.Tests.{one_answer, same_reflects}
+use Rattle.polyline.proofs.Tests.{same_reflects}
 use Rattle.polygon.specs.declared.fault.RingFault.TheVariants.{Open}
 use Rattle.polygon.specs.Faults.{ring_fault, closed, refusal_from, ring_refusal}
 

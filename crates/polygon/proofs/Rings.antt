@@ -7,13 +7,13 @@ use Rattle.plane.specs.Points.{Segment}
 use Rattle.plane.specs.Reach.{read_point}
 use Rattle.plane.specs.Reflects.{Reflects}
 use Rattle.plane.specs.Sets.{At}
-use Rattle.plane.proofs.Answers.{reflects_same}
+use Rattle.plane.proofs.Answers.{reflects_same, one_answer, or_rest}
 use Rattle.plane.proofs.Segments.{at_self}
 use Rattle.plane.proofs.Containment.{at_is}
 use Rattle.polyline.specs.Strings.{vertices, chain, segments, OnString}
 use Rattle.polyline.specs.Tests.{is_zero, same, touches, touches_any}
 use Rattle.polyline.specs.Winding.{crossing, winding}
-use Rattle.polyline.proofs.Tests.{or_rest, one_answer, zero_reflects, same_reflects, touches_any_reflects}
+use Rattle.polyline.proofs.Tests.{zero_reflects, same_reflects, touches_any_reflects}
 use Rattle.coordinate_position.specs.declared.position.CoordPos.{CoordPos}
 use Rattle.coordinate_position.specs.declared.position.CoordPos.TheVariants.{OnBoundary, Inside, Outside}
 use Rattle.polygon.specs.declared.passing.Passing.TheVariants.{Touched, Upward, Downward, Clear}

@@ -4,7 +4,8 @@ use Rattle.plane.specs.declared.grid_point.GridPoint.{GridPoint}
 use Rattle.plane.specs.Reach.{Within, WithinReach, read, read_point}
 use Rattle.plane.specs.Reflects.{Reflects}
 use Rattle.plane.proofs.Collinear.{same_point}
-use Rattle.polyline.proofs.Tests.{and_reflects, le_reflects}
+use Rattle.plane.proofs.Answers.{and_reflects}
+use Rattle.polyline.proofs.Tests.{le_reflects}
 use lib.Signed.{le_z}
 
 read_same : (u : ℤ) → Within u → read u ≡ u

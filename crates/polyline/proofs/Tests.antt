@@ -1,5 +1,5 @@
 -- What the tests of grid points and segments tell.
-use Rattle.std.proofs.Common.{◌≡◌, zero, suc, Bool, true, false, not, ◌&&◌, ◌||◌, ◌⊎◌, List, [], ◌∷◌, ℤ, pos, negsuc, ◌≤ℤ◌, ◌<ℤ◌, sym, refl, ap, ◌∙◌, inl, inr, arith}
+use Rattle.std.proofs.Common.{◌≡◌, zero, suc, Bool, true, false, ◌&&◌, ◌⊎◌, List, [], ◌∷◌, ℤ, pos, negsuc, ◌≤ℤ◌, ◌<ℤ◌, sym, refl, ap, ◌∙◌, inl, inr, arith}
 use lib.Signed.{le_z, lt_z}
 use Rattle.std.proofs.lemmas.Int.{ints}
 use Rattle.plane.specs.declared.grid_point.GridPoint.{GridPoint}
@@ -7,38 +7,11 @@ use Rattle.plane.specs.Orient.{det}
 use Rattle.plane.specs.Points.{Segment, Between, Touches, Ranges}
 use Rattle.plane.specs.Reflects.{Reflects}
 use Rattle.plane.proofs.Integers.{lin}
-use Rattle.plane.proofs.Answers.{reflects_same}
+use Rattle.plane.proofs.Answers.{reflects_same, and_reflects, or_reflects}
 use Rattle.plane.proofs.Orientations.{det_side}
 use Rattle.plane.proofs.Collinear.{ranges_on, on_ranges, on_side, same_point}
 use Rattle.polyline.specs.Tests.{is_zero, same, between, collinear, touches, touches_any}
 use Rattle.polyline.specs.Segments.{OnAny}
-
--- ---- tests of parts
-
-pub and_reflects : (P Q : Type 0) (a b : Bool) → Reflects a P → Reflects b Q → Reflects (a && b) (P × Q)
-and_reflects P Q true true p q = (p, q)
-and_reflects P Q true false p q = λ h. q h.1
-and_reflects P Q false b p q = λ h. p h.0
-
-pub or_reflects : (P Q : Type 0) (a b : Bool) → Reflects a P → Reflects b Q → Reflects (a || b) (P ⊎ Q)
-or_reflects P Q true b p q = inl p
-or_reflects P Q false true p q = inr q
-or_reflects P Q false false p q = λ h. elim h [ inl x ↦ p x | inr y ↦ q y ]
-
--- where the first test fails, the second decides
-pub or_rest : (a b : Bool) → a ≡ false → (a || b) ≡ b
-or_rest a b e = ap (λ (c : Bool). c || b) e
-
-pub not_reflects : (P : Type 0) (a : Bool) → Reflects a P → Reflects (not a) (P → ⊥)
-not_reflects P true p = λ n. n p
-not_reflects P false p = p
-
--- two tests of one fact have one answer
-pub one_answer : (P : Type 0) (a b : Bool) → Reflects a P → Reflects b P → a ≡ b
-one_answer P true true p q = refl
-one_answer P true false p q = absurd (q p)
-one_answer P false true p q = absurd (p q)
-one_answer P false false p q = refl
 
 -- ---- tests of numbers
 

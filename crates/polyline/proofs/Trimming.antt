@@ -15,11 +15,11 @@ use Rattle.plane.proofs.Slopes.{on_along}
 use Rattle.plane.proofs.Crossing.{on_reversed, on_transposed}
 use Rattle.plane.proofs.Collinear.{along_reversed, along_transposed, same_point}
 use Rattle.plane.proofs.Orientations.{det_side}
-use Rattle.plane.proofs.Answers.{reflects_same}
+use Rattle.plane.proofs.Answers.{reflects_same, and_reflects}
 use Rattle.polyline.specs.Tests.{collinear}
 use Rattle.polyline.specs.Segments.{OnAny, Covered}
 use Rattle.polyline.specs.Trimming.{is_vertical, ordered, span, apart, trimmed, along, trim_by, round, rounds, trims_all}
-use Rattle.polyline.proofs.Tests.{le_tells, lt_tells, and_reflects, zero_reflects, same_number_reflects}
+use Rattle.polyline.proofs.Tests.{le_tells, lt_tells, zero_reflects, same_number_reflects}
 use Rattle.polyline.proofs.Gap.{Clear, open_gap}
 use Rattle.polyline.proofs.Strings.{each_covered}
 

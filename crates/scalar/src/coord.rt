@@ -4,8 +4,8 @@ ghost use Rattle.plane.specs.Reach.{WithinReach, read_point};
 ghost use Rattle.plane.specs.Reflects.{Reflects};
 ghost use Rattle.scalar.specs.Coords.{grid_point, equal_coords};
 ghost use Rattle.scalar.specs.Refusal.{first_refusal};
-ghost use Rattle.std.specs.Cmp.Rules.{comparing};
-ghost use Rattle.std.proofs.Common.{rules};
+ghost use Rattle.std.specs.Cmp.{and_per, on_per, partial_equiv_from_equiv};
+ghost use Rattle.std.proofs.lemmas.Cmp.{int_eq_equiv};
 
 use crate::coord_num::CoordNum;
 use plane::grid_point::GridPoint;
@@ -51,7 +51,7 @@ impl<T: CoordNum> Coord<T> {
 impl<T: CoordNum> PartialEq for Coord<T> {
     ghost eq = { equal_coords T.CoordNum.units };
 
-    ghost laws = { Prim.search (comparing, rules) };
+    ghost laws = { and_per (on_per (λ c. T.CoordNum.units c.x) (partial_equiv_from_equiv int_eq_equiv)) (on_per (λ c. T.CoordNum.units c.y) (partial_equiv_from_equiv int_eq_equiv)) };
 
     fn eq(&self, other: &Coord<T>) -> bool
         ensures same { Reflects result (self.now ≡ other.now) }

@@ -3,8 +3,8 @@ use Rattle.std.proofs.lemmas.Bool.{or_left}
 use Rattle.plane.specs.declared.grid_point.GridPoint.{GridPoint}
 use Rattle.plane.specs.Points.{Segment}
 use Rattle.plane.specs.Reach.{read_point}
+use Rattle.plane.proofs.Answers.{or_rest}
 use Rattle.polyline.specs.Tests.{touches_any}
-use Rattle.polyline.proofs.Tests.{or_rest}
 use Rattle.polyline.proofs.Chains.{chain_none, chain_begins, chain_more, chain_ends}
 use Rattle.scalar.specs.Coords.{grid_point}
 use Rattle.line_strings.proofs.touching.any_touched.Goals as goal

@@ -4,8 +4,9 @@ use Rattle.plane.specs.Points.{Segment, Touches, Ranges}
 use Rattle.plane.specs.Reach.{read_point}
 use Rattle.plane.specs.Reflects.{Reflects}
 use Rattle.plane.proofs.Collinear.{on_ranges}
+use Rattle.plane.proofs.Answers.{one_answer}
 use Rattle.polyline.specs.Tests.{touches}
-use Rattle.polyline.proofs.Tests.{one_answer, touches_reflects}
+use Rattle.polyline.proofs.Tests.{touches_reflects}
 use Rattle.scalar.specs.Coords.{grid_point}
 use Rattle.line_strings.proofs.touching.is_touched.Goals as goal
 

@@ -1,7 +1,7 @@
 use Rattle.std.proofs.Common.{◌≡◌, ap}
-use Rattle.plane.proofs.Answers.{reflects_same}
+use Rattle.plane.proofs.Answers.{reflects_same, one_answer}
 use Rattle.polyline.specs.Trimming.{is_vertical}
-use Rattle.polyline.proofs.Tests.{one_answer, same_number_reflects}
+use Rattle.polyline.proofs.Tests.{same_number_reflects}
 use Rattle.geometry.specs.Shapes.{segment}
 use Rattle.line_strings.proofs.trimming.is_line_vertical.Goals as goal
 

@@ -4,9 +4,10 @@ use Rattle.plane.specs.declared.orientation.Orientation.{Orientation}
 use Rattle.plane.specs.declared.orientation.Orientation.TheVariants.{Collinear}
 use Rattle.plane.specs.Points.{Segment}
 use Rattle.plane.specs.Sets.{Box, Common, InBox}
-use Rattle.std.proofs.Common.{true}
+use Rattle.std.proofs.Common.{true, rules}
 use Rattle.plane.proofs.Answers.{reflects_same}
-use Rattle.plane.proofs.Turns.{eq_reflects, ne_reflects, equal_turns}
+use Rattle.plane.specs.contracts.orientation.Orientation.{the_type}
+use Rattle.plane.proofs.Enums.{eq_reflects, ne_reflects, equal_unless_ne}
 use Rattle.plane.proofs.Orientations.{turn}
 use Rattle.plane.proofs.Rectangles.{around_missed, low_right, high_left, low_right_apart, high_right_apart, high_left_apart, corners_reflect}
 use Rattle.geometry.specs.Shapes.{segment}
@@ -44,7 +45,7 @@ returns-then-ne g c =
     record {
       points =
           low_right_apart s r (box_ordered u c.args.self.now) (subst (λ (b : Box). Common (InBox r) (InBox b)) c.new.ensures.corners c.if-not-intersects.ensures.points)
-          (λ e. ne_reflects true c.orient2d-o0.result c.orient2d-o1.result c.if-ne.ensures (e0 ∙ e ∙ sym e1));
+          (λ e. ne_reflects the_type (search rules) true c.orient2d-o0.result c.orient2d-o1.result c.if-ne.ensures (e0 ∙ e ∙ sym e1));
     }
 
 pub returns-then-ne-2 : goal.returns-then-ne-2
@@ -57,7 +58,7 @@ returns-then-ne-2 g c =
     record {
       points =
           high_right_apart s r (box_ordered u c.args.self.now) (subst (λ (b : Box). Common (InBox r) (InBox b)) c.new.ensures.corners c.if-not-intersects.ensures.points)
-          (λ e. ne_reflects true c.orient2d-o0.result c.orient2d-o2.result c.if-ne-2.ensures (e0 ∙ e ∙ sym e2));
+          (λ e. ne_reflects the_type (search rules) true c.orient2d-o0.result c.orient2d-o2.result c.if-ne-2.ensures (e0 ∙ e ∙ sym e2));
     }
 
 pub returns-then-ne-3 : goal.returns-then-ne-3
@@ -70,7 +71,7 @@ returns-then-ne-3 g c =
     record {
       points =
           high_left_apart s r (box_ordered u c.args.self.now) (subst (λ (b : Box). Common (InBox r) (InBox b)) c.new.ensures.corners c.if-not-intersects.ensures.points)
-          (λ e. ne_reflects true c.orient2d-o0.result c.orient2d-o3.result c.if-ne-3.ensures (e0 ∙ e ∙ sym e3));
+          (λ e. ne_reflects the_type (search rules) true c.orient2d-o0.result c.orient2d-o3.result c.if-ne-3.ensures (e0 ∙ e ∙ sym e3));
     }
 
 pub returns : goal.returns
@@ -85,6 +86,6 @@ returns g c =
     record {
       points =
           corners_reflect s r (box_ordered u c.args.self.now) (subst (λ (b : Box). Common (InBox r) (InBox b)) c.new.ensures.corners c.if-not-intersects.ensures.points) c.eq.result
-          (sym e0 ∙ equal_turns c.orient2d-o0.result c.orient2d-o1.result c.if-ne.ensures ∙ e1) (sym e0 ∙ equal_turns c.orient2d-o0.result c.orient2d-o2.result c.if-ne-2.ensures ∙ e2) (sym e0 ∙ equal_turns c.orient2d-o0.result c.orient2d-o3.result c.if-ne-3.ensures ∙ e3)
-          (reflects_same c.eq.result (λ e. sym e0 ∙ e) (λ e. e0 ∙ e) (eq_reflects c.eq.result c.orient2d-o0.result Collinear c.eq.ensures));
+          (sym e0 ∙ equal_unless_ne the_type (search rules) c.orient2d-o0.result c.orient2d-o1.result c.if-ne.ensures ∙ e1) (sym e0 ∙ equal_unless_ne the_type (search rules) c.orient2d-o0.result c.orient2d-o2.result c.if-ne-2.ensures ∙ e2) (sym e0 ∙ equal_unless_ne the_type (search rules) c.orient2d-o0.result c.orient2d-o3.result c.if-ne-3.ensures ∙ e3)
+          (reflects_same c.eq.result (λ e. sym e0 ∙ e) (λ e. e0 ∙ e) (eq_reflects the_type (search rules) c.eq.result c.orient2d-o0.result Collinear c.eq.ensures));
     }
