@@ -4,6 +4,7 @@
 
 pub mod line;
 pub mod line_string;
+mod ranges;
 pub mod rect;
 
 ghost use Rattle.plane.specs.Reflects.{Reflects};

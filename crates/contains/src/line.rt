@@ -6,6 +6,7 @@ ghost use Rattle.plane.specs.Sets.{Common, Subset, At, Interior, ContainsByEnds}
 ghost use Rattle.polyline.specs.Strings.{vertices, OnString, SegmentContainsString};
 ghost use Rattle.scalar.specs.Coords.{grid_point};
 ghost use Rattle.geometry.specs.Shapes.{segment};
+ghost use Rattle.line_strings.specs.Views.{vertices_of};
 
 use crate::Contains;
 use geometry::line::Line;
@@ -19,19 +20,14 @@ use scalar::coord_num::CoordNum;
 // A touching coordinate other than the ends; of a line of length zero, its coordinate.
 impl<T: GeoNum> Contains<Coord<T>> for Line<T> {
     fn contains(&self, coord: &Coord<T>) -> bool
-        ensures points { Reflects result (Subset (At (grid_point T.CoordNum.units coord.now)) (On (segment T.CoordNum.units self.now)) × Common (At (grid_point T.CoordNum.units coord.now)) (Interior (segment T.CoordNum.units self.now))) }
-        ensures rule { Reflects result (Interior (segment T.CoordNum.units self.now) (T.CoordNum.units coord.now.x) (T.CoordNum.units coord.now.y) 1) }
+        ensures points { Reflects result (Subset (At (grid_point T.units coord.now)) (On (segment T.units self.now)) × Common (At (grid_point T.units coord.now)) (Interior (segment T.units self.now))) }
+        ensures rule { Reflects result (Interior (segment T.units self.now) (T.units coord.now.x) (T.units coord.now.y) 1) }
     {
         if self.start == self.end {
-            return self.start == *coord;
+            self.start == *coord
+        } else {
+            *coord != self.start && *coord != self.end && self.intersects(coord)
         }
-        if *coord == self.start {
-            return false;
-        }
-        if *coord == self.end {
-            return false;
-        }
-        self.intersects(coord)
     }
 }
 
@@ -39,48 +35,34 @@ impl<T: GeoNum> Contains<Coord<T>> for Line<T> {
 // point of the line does.
 impl<T: GeoNum> Contains<Line<T>> for Line<T> {
     fn contains(&self, line: &Line<T>) -> bool
-        ensures points { Reflects result (Subset (On (segment T.CoordNum.units line.now)) (On (segment T.CoordNum.units self.now)) × Common (On (segment T.CoordNum.units line.now)) (Interior (segment T.CoordNum.units self.now))) }
-        ensures rule { Reflects result (ContainsByEnds (segment T.CoordNum.units self.now) (segment T.CoordNum.units line.now)) }
-        ensures ends { Iff (Touches (segment T.CoordNum.units self.now) (grid_point T.CoordNum.units line.now.start) × Touches (segment T.CoordNum.units self.now) (grid_point T.CoordNum.units line.now.end)) (Subset (On (segment T.CoordNum.units line.now)) (On (segment T.CoordNum.units self.now))) }
+        ensures points { Reflects result (Subset (On (segment T.units line.now)) (On (segment T.units self.now)) × Common (On (segment T.units line.now)) (Interior (segment T.units self.now))) }
+        ensures rule { Reflects result (ContainsByEnds (segment T.units self.now) (segment T.units line.now)) }
+        ensures ends { Iff (Touches (segment T.units self.now) (grid_point T.units line.now.start) × Touches (segment T.units self.now) (grid_point T.units line.now.end)) (Subset (On (segment T.units line.now)) (On (segment T.units self.now))) }
     {
         if line.start == line.end {
-            return self.contains(&line.start);
+            self.contains(&line.start)
+        } else {
+            self.intersects(&line.start) && self.intersects(&line.end)
         }
-        if !self.intersects(&line.start) {
-            return false;
-        }
-        self.intersects(&line.end)
     }
 }
 
 // A line string that has a vertex and whose vertices all touch, and are contained if all are equal.
 impl<'a, T: GeoNum> Contains<LineString<'a, T>> for Line<T> {
     fn contains(&self, line_string: &LineString<'a, T>) -> bool
-        ensures points { Reflects result (Subset (OnString (vertices line_string.now.points.now)) (On (segment T.CoordNum.units self.now)) × Common (OnString (vertices line_string.now.points.now)) (Interior (segment T.CoordNum.units self.now))) }
-        ensures rule { Reflects result (SegmentContainsString (segment T.CoordNum.units self.now) (vertices line_string.now.points.now)) }
+        ensures points { Reflects result (Subset (OnString (vertices_of line_string.now)) (On (segment T.units self.now)) × Common (OnString (vertices_of line_string.now)) (Interior (segment T.units self.now))) }
+        ensures rule { Reflects result (SegmentContainsString (segment T.units self.now) (vertices_of line_string.now)) }
     {
-        let Some((first, _)) = line_string.points.split_first() else {
+        let [first, ..] = line_string.points else {
             return false;
         };
-        if !all_touch(self, line_string.points) {
-            return false;
-        }
         if line_string.all_equal() {
             self.contains(&Coord::from_grid(*first))
         } else {
-            true
+            line_string
+                .points
+                .iter()
+                .all(|point| self.intersects(&Coord::from_grid(*point)))
         }
     }
-}
-
-// Whether all vertices touch the line.
-fn all_touch<T: GeoNum>(line: &Line<T>, points: &[GridPoint]) -> bool
-    ensures { Reflects result (AllByRecursion (λ p. Touches (segment T.CoordNum.units line.now) (read_point p)) points.now) }
-{
-    for point in points {
-        if !line.intersects(&Coord::from_grid(*point)) {
-            return false;
-        }
-    }
-    true
 }

@@ -5,17 +5,19 @@ ghost use Rattle.scalar.specs.Coords.{grid_point};
 ghost use Rattle.geometry.specs.Rects.{box};
 
 use crate::Contains;
+use crate::ranges::{range_reaches_into, range_within, value_strictly_in_range};
 use geometry::rect::Rect;
 use scalar::coord::Coord;
 use scalar::coord_num::CoordNum;
+use scalar::units::Units;
 
 // A coordinate strictly within.
 impl<T: CoordNum> Contains<Coord<T>> for Rect<T> {
     fn contains(&self, coord: &Coord<T>) -> bool
-        ensures points { Reflects result (Subset (At (grid_point T.CoordNum.units coord.now)) (InBox (box T.CoordNum.units self.now)) × Common (At (grid_point T.CoordNum.units coord.now)) (StrictlyInBox (box T.CoordNum.units self.now))) }
-        ensures rule { Reflects result (StrictlyInBox (box T.CoordNum.units self.now) (T.CoordNum.units coord.now.x) (T.CoordNum.units coord.now.y) 1) }
+        ensures points { Reflects result (Subset (At (grid_point T.units coord.now)) (InBox (box T.units self.now)) × Common (At (grid_point T.units coord.now)) (StrictlyInBox (box T.units self.now))) }
+        ensures rule { Reflects result (StrictlyInBox (box T.units self.now) (T.units coord.now.x) (T.units coord.now.y) 1) }
     {
-        strictly_within(*coord, self.min(), self.max())
+        strictly_within(*coord, self)
     }
 }
 
@@ -23,53 +25,38 @@ impl<T: CoordNum> Contains<Coord<T>> for Rect<T> {
 // that every point does.
 impl<T: CoordNum> Contains<Rect<T>> for Rect<T> {
     fn contains(&self, other: &Rect<T>) -> bool
-        ensures points { Reflects result (Subset (InBox (box T.CoordNum.units other.now)) (InBox (box T.CoordNum.units self.now)) × Common (InBox (box T.CoordNum.units other.now)) (StrictlyInBox (box T.CoordNum.units self.now))) }
-        ensures rule { Reflects result (WithinBounds (box T.CoordNum.units self.now) (box T.CoordNum.units other.now) × Common (InBox (box T.CoordNum.units other.now)) (StrictlyInBox (box T.CoordNum.units self.now))) }
-        ensures bounds { Iff (WithinBounds (box T.CoordNum.units self.now) (box T.CoordNum.units other.now)) (Subset (InBox (box T.CoordNum.units other.now)) (InBox (box T.CoordNum.units self.now))) }
+        ensures points { Reflects result (Subset (InBox (box T.units other.now)) (InBox (box T.units self.now)) × Common (InBox (box T.units other.now)) (StrictlyInBox (box T.units self.now))) }
+        ensures rule { Reflects result (WithinBounds (box T.units self.now) (box T.units other.now) × Common (InBox (box T.units other.now)) (StrictlyInBox (box T.units self.now))) }
+        ensures bounds { Iff (WithinBounds (box T.units self.now) (box T.units other.now)) (Subset (InBox (box T.units other.now)) (InBox (box T.units self.now))) }
     {
-        let (min, max) = (self.min(), self.max());
-        let (other_min, other_max) = (other.min(), other.max());
-        within_bounds(min, max, other_min, other_max)
-            && reaches_into(min, max, other_min, other_max)
+        within_bounds(self, other) && reaches_into(self, other)
     }
 }
 
 // Whether the coordinate lies past the low corner and short of the high one, in both directions.
-fn strictly_within<T: CoordNum>(coord: Coord<T>, min: Coord<T>, max: Coord<T>) -> bool
-    ensures { Reflects result ((T.CoordNum.units min.x <ℤ T.CoordNum.units coord.x) × (T.CoordNum.units coord.x <ℤ T.CoordNum.units max.x) × (T.CoordNum.units min.y <ℤ T.CoordNum.units coord.y) × (T.CoordNum.units coord.y <ℤ T.CoordNum.units max.y)) }
+fn strictly_within<T: CoordNum>(coord: Coord<T>, rect: &Rect<T>) -> bool
+    ensures { Reflects result (StrictlyInBox (box T.units rect.now) (T.units coord.x) (T.units coord.y) 1) }
 {
-    !coord.x.at_most(min.x)
-        && !max.x.at_most(coord.x)
-        && !coord.y.at_most(min.y)
-        && !max.y.at_most(coord.y)
+    let (min, max) = (rect.min(), rect.max());
+    value_strictly_in_range(coord.x, min.x, max.x) && value_strictly_in_range(coord.y, min.y, max.y)
 }
 
-// Whether the closed bounds of the second rectangle lie within those of the first.
-fn within_bounds<T: CoordNum>(
-    min: Coord<T>,
-    max: Coord<T>,
-    other_min: Coord<T>,
-    other_max: Coord<T>,
-) -> bool
-    ensures { Reflects result (WithinBounds (record { min = grid_point T.CoordNum.units min; max = grid_point T.CoordNum.units max }) (record { min = grid_point T.CoordNum.units other_min; max = grid_point T.CoordNum.units other_max })) }
+// Whether the closed bounds of the inner rectangle lie within those of the outer.
+fn within_bounds<T: CoordNum>(outer: &Rect<T>, inner: &Rect<T>) -> bool
+    ensures { Reflects result (WithinBounds (box T.units outer.now) (box T.units inner.now)) }
 {
-    min.x.at_most(other_min.x)
-        && other_max.x.at_most(max.x)
-        && min.y.at_most(other_min.y)
-        && other_max.y.at_most(max.y)
+    let (min, max) = (outer.min(), outer.max());
+    let (inner_min, inner_max) = (inner.min(), inner.max());
+    range_within(inner_min.x, inner_max.x, min.x, max.x)
+        && range_within(inner_min.y, inner_max.y, min.y, max.y)
 }
 
-// Whether the second rectangle reaches past the sides of the first into its inside, in both directions.
-fn reaches_into<T: CoordNum>(
-    min: Coord<T>,
-    max: Coord<T>,
-    other_min: Coord<T>,
-    other_max: Coord<T>,
-) -> bool
-    ensures { Reflects result ((T.CoordNum.units min.x <ℤ T.CoordNum.units other_max.x) × (T.CoordNum.units other_min.x <ℤ T.CoordNum.units max.x) × (T.CoordNum.units min.y <ℤ T.CoordNum.units other_max.y) × (T.CoordNum.units other_min.y <ℤ T.CoordNum.units max.y)) }
+// Whether the inner rectangle reaches past the sides of the outer into its inside, in both directions.
+fn reaches_into<T: CoordNum>(outer: &Rect<T>, inner: &Rect<T>) -> bool
+    ensures { Reflects result (((box T.units outer.now).min.x <ℤ (box T.units inner.now).max.x) × ((box T.units inner.now).min.x <ℤ (box T.units outer.now).max.x) × ((box T.units outer.now).min.y <ℤ (box T.units inner.now).max.y) × ((box T.units inner.now).min.y <ℤ (box T.units outer.now).max.y)) }
 {
-    !other_max.x.at_most(min.x)
-        && !max.x.at_most(other_min.x)
-        && !other_max.y.at_most(min.y)
-        && !max.y.at_most(other_min.y)
+    let (min, max) = (outer.min(), outer.max());
+    let (inner_min, inner_max) = (inner.min(), inner.max());
+    range_reaches_into(inner_min.x, inner_max.x, min.x, max.x)
+        && range_reaches_into(inner_min.y, inner_max.y, min.y, max.y)
 }

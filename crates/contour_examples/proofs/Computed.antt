@@ -1,7 +1,7 @@
 -- The one computed check of the examples of line strings, positions, groups and rings, and the laws that turn each of
 -- its tests into what it tests.
 use Prim.Native.Nat.{ℕ, zero, suc}
-use mathlib.Core.Bool.{Bool, true, false, not, ◌&&◌}
+use mathlib.Core.Bool.{Bool, true, false, not, ◌&&◌, xor}
 use mathlib.Core.List.{List, [], ◌∷◌}
 use mathlib.Core.Logic.{inr}
 use mathlib.Core.Path.{◌≡◌, refl}
@@ -92,7 +92,7 @@ nth_passed (b ∷ bs) zero t = and_l b (every bs) t
 nth_passed (b ∷ bs) (suc i) t = nth_passed bs i (and_r b (every bs) t)
 
 computed : T (every checks)
-unfolding is
+unfolding is xor
 computed = tt
 
 passed : (i : ℕ) → T (get_or checks i true)

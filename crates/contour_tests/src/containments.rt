@@ -1,3 +1,5 @@
+use crate::positions::HOOK;
+use crate::tables::check;
 use crate::{at, line, point};
 use contains::Contains;
 use geometry::line::Line;
@@ -9,24 +11,9 @@ use scalar::coord_num::CoordNum;
 use scalar::f64_scalar::F64Scalar;
 use scalar::i32_scalar::I32Scalar;
 use std::process::Abort;
-use std::test::Fail;
 
-fn coords<T: GeoNum>(
-    rt: &impl Abort,
-    points: &[GridPoint],
-    cases: &[(GridPoint, bool)],
-) -> Result<(), Fail> {
-    for (p, expected) in cases {
-        assert_eq!(rt; LineString::<T>::new(points).contains(&at(*p)), *expected);
-    }
-    Ok(())
-}
-
-fn lines<T: GeoNum>(rt: &impl Abort, points: &[GridPoint], cases: &[(GridPoint, GridPoint, bool)]) {
-    for (a, b, expected) in cases {
-        let inner: Line<T> = line(*a, *b);
-        assert_eq!(rt; LineString::<T>::new(points).contains(&inner), *expected);
-    }
+fn coords<T: GeoNum>(rt: &impl Abort, points: &[GridPoint], cases: &[(GridPoint, bool)]) {
+    check(rt, cases, |p| LineString::<T>::new(points).contains(&at(p)));
 }
 
 fn holds<T: GeoNum>(outer: &[GridPoint], inner: &[GridPoint]) -> bool {
@@ -37,14 +24,6 @@ fn line_holds<T: GeoNum>(inner: &[GridPoint]) -> bool {
     let outer: Line<T> = line(point(0, 0), point(8, 4));
     outer.contains(&LineString::<T>::new(inner))
 }
-
-// It ends on its first segment.
-const HOOK: [GridPoint; 4] = [
-    GridPoint { x: 0, y: 0 },
-    GridPoint { x: 4, y: 0 },
-    GridPoint { x: 4, y: 4 },
-    GridPoint { x: 2, y: 0 },
-];
 
 const ON_HOOK: [(GridPoint, bool); 5] = [
     (GridPoint { x: 2, y: 0 }, false), // an open end, on a segment
@@ -61,22 +40,22 @@ const ROUND: [GridPoint; 4] = [
     GridPoint { x: 0, y: 0 },
 ];
 
-fn over_coords<T: GeoNum>(rt: &impl Abort) -> Result<(), Fail> {
-    coords::<T>(rt, &HOOK, &ON_HOOK)?;
+fn over_coords<T: GeoNum>(rt: &impl Abort) {
+    coords::<T>(rt, &HOOK, &ON_HOOK);
     // closed
-    coords::<T>(rt, &ROUND, &[(point(0, 0), true)])?;
+    coords::<T>(rt, &ROUND, &[(point(0, 0), true)]);
     coords::<T>(
         rt,
         &[point(1, 2)],
         &[(point(1, 2), true), (point(2, 1), false)],
-    )?;
-    coords::<T>(rt, &[], &[(point(0, 0), false)])
+    );
+    coords::<T>(rt, &[], &[(point(0, 0), false)]);
 }
 
 #[test]
-fn line_strings_over_coordinates(rt: HostRuntime) -> Result<(), Fail> {
-    over_coords::<I32Scalar>(&rt)?;
-    over_coords::<F64Scalar>(&rt)
+fn line_strings_over_coordinates(rt: HostRuntime) {
+    over_coords::<I32Scalar>(&rt);
+    over_coords::<F64Scalar>(&rt);
 }
 
 const BENT: [GridPoint; 4] = [
@@ -86,18 +65,26 @@ const BENT: [GridPoint; 4] = [
     GridPoint { x: 5, y: 5 },
 ];
 
-const ON_BENT: [(GridPoint, GridPoint, bool); 5] = [
-    (GridPoint { x: 0, y: 0 }, GridPoint { x: 5, y: 0 }, true),
-    (GridPoint { x: 4, y: 0 }, GridPoint { x: 1, y: 0 }, true),
-    (GridPoint { x: 0, y: 0 }, GridPoint { x: 5, y: 5 }, false),
-    (GridPoint { x: 0, y: 0 }, GridPoint { x: 0, y: 0 }, false), // an open end
-    (GridPoint { x: 2, y: 0 }, GridPoint { x: 2, y: 0 }, true),
+const ON_BENT: [((GridPoint, GridPoint), bool); 5] = [
+    ((GridPoint { x: 0, y: 0 }, GridPoint { x: 5, y: 0 }), true),
+    ((GridPoint { x: 4, y: 0 }, GridPoint { x: 1, y: 0 }), true),
+    ((GridPoint { x: 0, y: 0 }, GridPoint { x: 5, y: 5 }), false),
+    ((GridPoint { x: 0, y: 0 }, GridPoint { x: 0, y: 0 }), false), // an open end
+    ((GridPoint { x: 2, y: 0 }, GridPoint { x: 2, y: 0 }), true),
 ];
+
+fn over_lines<T: GeoNum>(rt: &impl Abort) {
+    check(
+        rt,
+        &ON_BENT,
+        |(a, b)| LineString::<T>::new(&BENT).contains(&line(a, b)),
+    );
+}
 
 #[test]
 fn line_strings_over_lines(rt: HostRuntime) {
-    lines::<I32Scalar>(&rt, &BENT, &ON_BENT);
-    lines::<F64Scalar>(&rt, &BENT, &ON_BENT);
+    over_lines::<I32Scalar>(&rt);
+    over_lines::<F64Scalar>(&rt);
 }
 
 // Along the other, the other way, with a vertex twice.

@@ -13,13 +13,15 @@ mod polygons;
 mod positions;
 #[cfg(test)]
 mod rings;
+#[cfg(test)]
+mod tables;
 
 use geometry::line::Line;
 use plane::grid_point::GridPoint;
 use scalar::coord::Coord;
 use scalar::coord_num::CoordNum;
 
-pub(crate) const fn point(x: i32, y: i32) -> GridPoint {
+pub(crate) fn point(x: i32, y: i32) -> GridPoint {
     GridPoint { x, y }
 }
 

@@ -1,3 +1,4 @@
+use crate::tables::check;
 use crate::{at, line, point};
 use kernel::geo_num::GeoNum;
 use line_strings::line_string::LineString;
@@ -6,7 +7,6 @@ use scalar::coord_num::CoordNum;
 use scalar::f64_scalar::F64Scalar;
 use scalar::i32_scalar::I32Scalar;
 use std::process::Abort;
-use std::test::Fail;
 
 fn closed<T: GeoNum>(points: &[GridPoint]) -> bool {
     LineString::<T>::new(points).is_closed()
@@ -29,25 +29,26 @@ fn closed_line_strings(rt: HostRuntime) {
     closed_ones::<F64Scalar>(&rt);
 }
 
-// How many lines there are, and whether each begins where the one before ends.
-fn lines_in_order<T: GeoNum>(rt: &impl Abort, points: &[GridPoint]) -> Result<usize, Fail> {
-    let mut lines = LineString::<T>::new(points).lines();
-    for i in 1..points.len() {
-        let next = lines.next().ok_or("a line too few")?;
-        assert!(rt; next.start == at(points[i - 1]));
-        assert!(rt; next.end == at(points[i]));
-    }
-    assert!(rt; lines.next().is_none(), "a line too many");
-    Ok(points.len())
+// Checks that its lines are those between neighbouring points, in order, and answers how many points there are.
+fn lines_in_order<T: GeoNum>(rt: &impl Abort, points: &[GridPoint]) -> usize {
+    let lines = LineString::<T>::new(points).lines().map(|line| (
+        GridPoint::from(line.start),
+        GridPoint::from(line.end),
+    ));
+    let neighbours = points
+        .array_windows::<2>()
+        .map(|[start, end]| (*start, *end));
+    assert!(rt; lines.eq(neighbours));
+    points.len()
 }
 
 #[test]
-fn lines_of_line_strings(rt: HostRuntime) -> Result<(), Fail> {
-    assert_eq!(rt; lines_in_order::<I32Scalar>(&rt, &WINDING)?, 10);
-    assert_eq!(rt; lines_in_order::<F64Scalar>(&rt, &WINDING)?, 10);
-    assert_eq!(rt; lines_in_order::<I32Scalar>(&rt, &[])?, 0);
-    assert_eq!(rt; lines_in_order::<F64Scalar>(&rt, &[point(1, 1)])?, 1);
-    Ok(())
+fn lines_of_line_strings(rt: HostRuntime) {
+    assert_eq!(rt; lines_in_order::<I32Scalar>(&rt, &WINDING), 10);
+    assert_eq!(rt; lines_in_order::<F64Scalar>(&rt, &WINDING), 10);
+    assert_eq!(rt; lines_in_order::<I32Scalar>(&rt, &[]), 0);
+    assert_eq!(rt; lines_in_order::<F64Scalar>(&rt, &[point(1, 1)]), 1);
+    assert_eq!(rt; LineString::<I32Scalar>::new(&WINDING).lines().count(), 9);
 }
 
 fn all_equal<T: GeoNum>(points: &[GridPoint]) -> bool {
@@ -85,15 +86,11 @@ const TOUCHING: [(GridPoint, bool); 4] = [
 ];
 
 fn ends<T: GeoNum>(rt: &impl Abort, points: &[GridPoint], cases: &[(GridPoint, bool)]) {
-    for (p, expected) in cases {
-        assert_eq!(rt; LineString::<T>::new(points).ends_at(&at(*p)), *expected);
-    }
+    check(rt, cases, |p| LineString::<T>::new(points).ends_at(&at(p)));
 }
 
 fn touches<T: GeoNum>(rt: &impl Abort, points: &[GridPoint], cases: &[(GridPoint, bool)]) {
-    for (p, expected) in cases {
-        assert_eq!(rt; LineString::<T>::new(points).touches(&at(*p)), *expected);
-    }
+    check(rt, cases, |p| LineString::<T>::new(points).touches(&at(p)));
 }
 
 #[test]
@@ -121,14 +118,14 @@ const WINDING: [GridPoint; 10] = [
     GridPoint { x: 5, y: 0 },
 ];
 
-const IN_ROUNDS: [(GridPoint, GridPoint, bool); 7] = [
-    (GridPoint { x: 0, y: 0 }, GridPoint { x: 5, y: 0 }, true),
-    (GridPoint { x: 5, y: 0 }, GridPoint { x: 0, y: 0 }, true), // either way
-    (GridPoint { x: 0, y: 1 }, GridPoint { x: 0, y: 4 }, true), // vertical
-    (GridPoint { x: 0, y: 0 }, GridPoint { x: 6, y: 0 }, false), // too long
-    (GridPoint { x: 0, y: 0 }, GridPoint { x: 5, y: 1 }, false), // another slope
-    (GridPoint { x: 3, y: 0 }, GridPoint { x: 3, y: 0 }, true), // a point
-    (GridPoint { x: 3, y: 1 }, GridPoint { x: 3, y: 1 }, false), // a point beside
+const IN_ROUNDS: [((GridPoint, GridPoint), bool); 7] = [
+    ((GridPoint { x: 0, y: 0 }, GridPoint { x: 5, y: 0 }), true),
+    ((GridPoint { x: 5, y: 0 }, GridPoint { x: 0, y: 0 }), true), // either way
+    ((GridPoint { x: 0, y: 1 }, GridPoint { x: 0, y: 4 }), true), // vertical
+    ((GridPoint { x: 0, y: 0 }, GridPoint { x: 6, y: 0 }), false), // too long
+    ((GridPoint { x: 0, y: 0 }, GridPoint { x: 5, y: 1 }), false), // another slope
+    ((GridPoint { x: 3, y: 0 }, GridPoint { x: 3, y: 0 }), true), // a point
+    ((GridPoint { x: 3, y: 1 }, GridPoint { x: 3, y: 1 }), false), // a point beside
 ];
 
 const GAP: [GridPoint; 5] = [
@@ -139,10 +136,10 @@ const GAP: [GridPoint; 5] = [
     GridPoint { x: 5, y: 0 },
 ];
 
-const BESIDE_A_GAP: [(GridPoint, GridPoint, bool); 3] = [
-    (GridPoint { x: 0, y: 0 }, GridPoint { x: 5, y: 0 }, false),
-    (GridPoint { x: 0, y: 0 }, GridPoint { x: 2, y: 0 }, true),
-    (GridPoint { x: 5, y: 0 }, GridPoint { x: 3, y: 0 }, true),
+const BESIDE_A_GAP: [((GridPoint, GridPoint), bool); 3] = [
+    ((GridPoint { x: 0, y: 0 }, GridPoint { x: 5, y: 0 }), false),
+    ((GridPoint { x: 0, y: 0 }, GridPoint { x: 2, y: 0 }), true),
+    ((GridPoint { x: 5, y: 0 }, GridPoint { x: 3, y: 0 }), true),
 ];
 
 // Pieces that overlap.
@@ -168,28 +165,26 @@ const REACH: [GridPoint; 2] = [
 fn covers<T: GeoNum>(
     rt: &impl Abort,
     points: &[GridPoint],
-    cases: &[(GridPoint, GridPoint, bool)],
+    cases: &[((GridPoint, GridPoint), bool)],
 ) {
-    for (a, b, expected) in cases {
-        assert_eq!(rt;
-            LineString::<T>::new(points).covers(&line(*a, *b)),
-            *expected
-        );
-    }
+    check(
+        rt,
+        cases,
+        |(a, b)| LineString::<T>::new(points).covers(&line(a, b)),
+    );
 }
 
 fn covered<T: GeoNum>(rt: &impl Abort) {
     covers::<T>(rt, &WINDING, &IN_ROUNDS);
     covers::<T>(rt, &GAP, &BESIDE_A_GAP);
-    covers::<T>(rt, &DIAGONAL, &[(point(-6, -4), point(9, 6), true)]);
-    covers::<T>(rt, &[], &[(point(0, 0), point(1, 0), false)]);
-    covers::<T>(rt, &[point(0, 0)], &[(point(0, 0), point(0, 0), false)]);
+    covers::<T>(rt, &DIAGONAL, &[((point(-6, -4), point(9, 6)), true)]);
+    covers::<T>(rt, &[], &[((point(0, 0), point(1, 0)), false)]);
+    covers::<T>(rt, &[point(0, 0)], &[((point(0, 0), point(0, 0)), false)]);
     covers::<T>(
         rt,
         &REACH,
         &[(
-            point(-536870911, -536870911),
-            point(536870911, 536870911),
+            (point(-536870911, -536870911), point(536870911, 536870911)),
             true,
         )],
     );

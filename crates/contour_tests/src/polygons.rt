@@ -10,7 +10,6 @@ use scalar::coord_num::CoordNum;
 use scalar::f64_scalar::F64Scalar;
 use scalar::i32_scalar::I32Scalar;
 use std::process::Abort;
-use std::test::Fail;
 
 const OUTLINE: [GridPoint; 5] = [
     GridPoint { x: 0, y: 0 },
@@ -42,10 +41,8 @@ fn in_polygon<'a, T: GeoNum>(
     p: GridPoint,
 ) -> Result<CoordPos, RingFault> {
     let holes = [LineString::<T>::new(first), LineString::<T>::new(second)];
-    match Polygon::new(LineString::<T>::new(exterior), &holes) {
-        Ok(polygon) => Ok(polygon.coordinate_position(&at(p))),
-        Err(fault) => Err(fault),
-    }
+    let polygon = Polygon::new(LineString::new(exterior), &holes)?;
+    Ok(polygon.coordinate_position(&at(p)))
 }
 
 fn polygon<T: GeoNum>(
@@ -54,11 +51,14 @@ fn polygon<T: GeoNum>(
     first: &[GridPoint],
     second: &[GridPoint],
     cases: &[(GridPoint, CoordPos)],
-) -> Result<(), Fail> {
+) {
     for (p, expected) in cases {
-        assert_eq!(rt; in_polygon::<T>(exterior, first, second, *p)?, *expected);
+        assert_eq!(rt;
+            in_polygon::<T>(exterior, first, second, *p),
+            Ok(*expected),
+            "at {p:?}"
+        );
     }
-    Ok(())
 }
 
 const WITH_A_HOLE: [(GridPoint, CoordPos); 5] = [
@@ -74,11 +74,11 @@ const FILLED: [(GridPoint, CoordPos); 2] = [
     (GridPoint { x: 3, y: 3 }, CoordPos::Outside),
 ];
 
-fn polygons<T: GeoNum>(rt: &impl Abort) -> Result<(), Fail> {
-    polygon::<T>(rt, &OUTLINE, &[], &HOLE, &WITH_A_HOLE)?;
-    polygon::<T>(rt, &OUTLINE, &OUTLINE, &[], &FILLED)?;
+fn polygons<T: GeoNum>(rt: &impl Abort) {
+    polygon::<T>(rt, &OUTLINE, &[], &HOLE, &WITH_A_HOLE);
+    polygon::<T>(rt, &OUTLINE, &OUTLINE, &[], &FILLED);
     // no exterior
-    polygon::<T>(rt, &[], &HOLE, &[], &[(point(2, 3), CoordPos::Outside)])?;
+    polygon::<T>(rt, &[], &HOLE, &[], &[(point(2, 3), CoordPos::Outside)]);
     // the first hole that is not outside decides
     polygon::<T>(
         rt,
@@ -86,35 +86,38 @@ fn polygons<T: GeoNum>(rt: &impl Abort) -> Result<(), Fail> {
         &[point(3, 3)],
         &HOLE,
         &[(point(3, 3), CoordPos::OnBoundary)],
-    )
+    );
 }
 
 #[test]
-fn positions_in_polygons(rt: HostRuntime) -> Result<(), Fail> {
-    polygons::<I32Scalar>(&rt)?;
-    polygons::<F64Scalar>(&rt)
+fn positions_in_polygons(rt: HostRuntime) {
+    polygons::<I32Scalar>(&rt);
+    polygons::<F64Scalar>(&rt);
 }
 
-// The place of the open ring that a polygon is refused for, or 99.
-fn open_place<T: GeoNum>(
+// What a polygon of these rings is refused with, if it is.
+fn refusal<T: GeoNum>(
     exterior: &[GridPoint],
     first: &[GridPoint],
     second: &[GridPoint],
-) -> usize {
-    match in_polygon::<T>(exterior, first, second, point(0, 0)) {
-        Ok(_) => 99,
-        Err(RingFault::Open(place)) => place,
-    }
+) -> Option<RingFault> {
+    in_polygon::<T>(exterior, first, second, point(0, 0)).err()
 }
 
 fn refused<T: GeoNum>(rt: &impl Abort) {
-    assert_eq!(rt; open_place::<T>(&OUTLINE, &HOLE, &HOLE), 99);
-    assert_eq!(rt; open_place::<T>(&OPEN, &OPEN, &HOLE), 0);
-    assert_eq!(rt; open_place::<T>(&OUTLINE, &HOLE, &OPEN), 2);
-    assert_eq!(rt; open_place::<T>(&OUTLINE, &OPEN, &OPEN), 1);
+    assert_eq!(rt; refusal::<T>(&OUTLINE, &HOLE, &HOLE), None);
+    assert_eq!(rt; refusal::<T>(&OPEN, &OPEN, &HOLE), Some(RingFault::Open(0)));
     assert_eq!(rt;
-        open_place::<T>(&[], &OPEN, &HOLE),
-        1,
+        refusal::<T>(&OUTLINE, &HOLE, &OPEN),
+        Some(RingFault::Open(2))
+    );
+    assert_eq!(rt;
+        refusal::<T>(&OUTLINE, &OPEN, &OPEN),
+        Some(RingFault::Open(1))
+    );
+    assert_eq!(rt;
+        refusal::<T>(&[], &OPEN, &HOLE),
+        Some(RingFault::Open(1)),
         "an empty exterior does not excuse an open hole"
     );
 }

@@ -9,21 +9,15 @@ use scalar::coord_num::CoordNum;
 use scalar::f64_scalar::F64Scalar;
 use scalar::i32_scalar::I32Scalar;
 use std::process::Abort;
-use std::test::Fail;
 
 fn in_ring<T: GeoNum>(points: &[GridPoint], p: GridPoint) -> Result<CoordPos, RingFault> {
     coord_pos_relative_to_ring(at(p), &LineString::<T>::new(points))
 }
 
-fn ring<T: GeoNum>(
-    rt: &impl Abort,
-    points: &[GridPoint],
-    cases: &[(GridPoint, CoordPos)],
-) -> Result<(), Fail> {
+fn ring<T: GeoNum>(rt: &impl Abort, points: &[GridPoint], cases: &[(GridPoint, CoordPos)]) {
     for (p, expected) in cases {
-        assert_eq!(rt; in_ring::<T>(points, *p)?, *expected);
+        assert_eq!(rt; in_ring::<T>(points, *p), Ok(*expected), "at {p:?}");
     }
-    Ok(())
 }
 
 const SQUARE: [GridPoint; 5] = [
@@ -89,13 +83,13 @@ const UNDONE: [GridPoint; 7] = [
     GridPoint { x: 0, y: 0 },
 ];
 
-fn rings<T: GeoNum>(rt: &impl Abort) -> Result<(), Fail> {
-    ring::<T>(rt, &SQUARE, &IN_SQUARE)?;
-    ring::<T>(rt, &CLOCKWISE, &IN_SQUARE)?;
-    ring::<T>(rt, &DIAMOND, &IN_DIAMOND)?;
-    ring::<T>(rt, &TWICE, &[(point(1, 1), CoordPos::Inside)])?;
-    ring::<T>(rt, &UNDONE, &[(point(1, 1), CoordPos::Outside)])?;
-    ring::<T>(rt, &[], &[(point(0, 0), CoordPos::Outside)])?;
+fn rings<T: GeoNum>(rt: &impl Abort) {
+    ring::<T>(rt, &SQUARE, &IN_SQUARE);
+    ring::<T>(rt, &CLOCKWISE, &IN_SQUARE);
+    ring::<T>(rt, &DIAMOND, &IN_DIAMOND);
+    ring::<T>(rt, &TWICE, &[(point(1, 1), CoordPos::Inside)]);
+    ring::<T>(rt, &UNDONE, &[(point(1, 1), CoordPos::Outside)]);
+    ring::<T>(rt, &[], &[(point(0, 0), CoordPos::Outside)]);
     ring::<T>(
         rt,
         &[point(1, 1)],
@@ -103,13 +97,13 @@ fn rings<T: GeoNum>(rt: &impl Abort) -> Result<(), Fail> {
             (point(1, 1), CoordPos::OnBoundary),
             (point(1, 2), CoordPos::Outside),
         ],
-    )
+    );
 }
 
 #[test]
-fn positions_relative_to_rings(rt: HostRuntime) -> Result<(), Fail> {
-    rings::<I32Scalar>(&rt)?;
-    rings::<F64Scalar>(&rt)
+fn positions_relative_to_rings(rt: HostRuntime) {
+    rings::<I32Scalar>(&rt);
+    rings::<F64Scalar>(&rt);
 }
 
 const OPEN: [GridPoint; 3] = [
@@ -118,17 +112,19 @@ const OPEN: [GridPoint; 3] = [
     GridPoint { x: 0, y: 2 },
 ];
 
-fn is_open(r: Result<CoordPos, RingFault>) -> bool {
-    match r {
-        Ok(_) => false,
-        Err(RingFault::Open(place)) => place == 0,
-    }
-}
-
 #[test]
 fn open_rings(rt: HostRuntime) {
-    assert!(rt; is_open(in_ring::<I32Scalar>(&OPEN, point(0, 1))));
-    assert!(rt; is_open(in_ring::<F64Scalar>(&OPEN, point(0, 1))));
-    assert!(rt; is_open(in_ring::<F64Scalar>(&OPEN, point(9, 9))));
+    assert_eq!(rt;
+        in_ring::<I32Scalar>(&OPEN, point(0, 1)),
+        Err(RingFault::Open(0))
+    );
+    assert_eq!(rt;
+        in_ring::<F64Scalar>(&OPEN, point(0, 1)),
+        Err(RingFault::Open(0))
+    );
+    assert_eq!(rt;
+        in_ring::<F64Scalar>(&OPEN, point(9, 9)),
+        Err(RingFault::Open(0))
+    );
     assert_eq!(rt; RingFault::Open(0).number(), 4);
 }

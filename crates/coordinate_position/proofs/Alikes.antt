@@ -1,16 +1,17 @@
 -- When shapes are alike: grouped with whatever third shape, a grid point has one position.
-use Rattle.std.proofs.Common.{◌≡◌, Bool, true, false, ◌||◌, sym, refl, ap, ◌∙◌, subst, ap₂, inl, inr, true≢false}
-use mathlib.Core.Bool.{beq, false≢true}
+use Rattle.std.proofs.Common.{◌≡◌, Bool, true, false, ◌&&◌, ◌||◌, sym, refl, ap, ◌∙◌, subst, ap₂, inl, inr, true≢false}
+use mathlib.Core.Bool.{beq, false≢true, xor}
+use Rattle.std.specs.Cmp.{booleans_Decides}
 use Rattle.plane.specs.declared.grid_point.GridPoint.{GridPoint}
 use Rattle.plane.specs.Points.{Segment}
 use Rattle.plane.specs.Reflects.{Reflects}
-use Rattle.plane.proofs.Answers.{reflects_same, reflects_no}
+use Rattle.plane.proofs.Answers.{reflects_same, decides_reflects, and_reflects}
 use Rattle.plane.proofs.Containment.{end_not_interior}
 use Rattle.coordinate_position.specs.declared.position.CoordPos.{CoordPos}
 use Rattle.coordinate_position.specs.declared.position.CoordPos.TheVariants.{OnBoundary, Inside, Outside}
 use Rattle.coordinate_position.specs.declared.position.Membership.{Membership}
 use Rattle.coordinate_position.specs.Positions.{mod_2}
-use Rattle.coordinate_position.specs.Shapes.{Shape, membership, position, xor, grouped, nothing, line_shape}
+use Rattle.coordinate_position.specs.Shapes.{Shape, membership, position, grouped, nothing, line_shape}
 use Rattle.coordinate_position.specs.Alike.{Alike, ToldApartByLines, Compared, AlikeExactly}
 use Rattle.coordinate_position.proofs.Memberships.{line_membership}
 
@@ -28,7 +29,7 @@ is_inside Outside = false
 
 -- of a shape grouped with nothing, its own boundary
 shows_odd : (i o : Bool) → on_boundary (mod_2 (i || false) (xor o false)) ≡ o
-unfolding on_boundary
+unfolding on_boundary xor
 shows_odd true true = refl
 shows_odd false true = refl
 shows_odd true false = refl
@@ -36,7 +37,7 @@ shows_odd false false = refl
 
 -- of a shape grouped with one of the same boundary count and no inside, its own inside
 shows_inside : (i o : Bool) → is_inside (mod_2 (i || false) (xor o o)) ≡ i
-unfolding is_inside
+unfolding is_inside xor
 shows_inside true true = refl
 shows_inside false true = refl
 shows_inside true false = refl
@@ -77,33 +78,16 @@ compared : (r : Bool) (c : GridPoint) (f g : Shape) → Reflects r ((f.odd c ≡
 compared true c f g h = same_alike c f g h
 compared false c f g n = told_apart c f g n
 
--- ---- what the code compares
+both_equal : (a b x y : Bool) → Reflects (beq a b && beq x y) ((x ≡ y) × (a ≡ b))
+both_equal a b x y =
+    reflects_same (beq a b && beq x y) (λ (h : (a ≡ b) × (x ≡ y)). (h.1, h.0)) (λ h. (h.1, h.0))
+    (and_reflects (a ≡ b) (x ≡ y) (beq a b) (beq x y) (decides_reflects (a ≡ b) (beq a b) (booleans_Decides a b)) (decides_reflects (x ≡ y) (beq x y) (booleans_Decides x y)))
 
-beq_reflects : (a b : Bool) → Reflects (beq a b) (a ≡ b)
-beq_reflects true true = refl
-beq_reflects true false = true≢false
-beq_reflects false true = false≢true
-beq_reflects false false = refl
-
-module _ (c : GridPoint) (f g : Shape) (m n : Membership) (u : m ≡ membership f c) (v : n ≡ membership g c) where
-  same_compared : (r : Bool) → Reflects r ((m.odd ≡ n.odd) × (m.inside ≡ n.inside)) → Compared r c f g
-  same_compared r h =
-      let i = ap (λ (k : Membership). k.inside) u in
-      let j = ap (λ (k : Membership). k.inside) v in
-      let o = ap (λ (k : Membership). k.odd) u in
-      let p = ap (λ (k : Membership). k.odd) v in
-      compared r c f g (reflects_same r (λ e. (sym o ∙ e.0 ∙ p, sym i ∙ e.1 ∙ j)) (λ e. (o ∙ e.0 ∙ sym p, i ∙ e.1 ∙ sym j)) h)
-
-  pub inside_compared : beq m.odd n.odd ≡ true → Compared (beq m.inside n.inside) c f g
-  inside_compared e =
-      let r = beq m.inside n.inside in
-      let o : m.odd ≡ n.odd = subst (λ (t : Bool). Reflects t (m.odd ≡ n.odd)) e (beq_reflects m.odd n.odd) in
-      same_compared r (reflects_same r (λ h. (o, h)) (λ h. h.1) (beq_reflects m.inside n.inside))
-
-  pub odd_compared : beq m.odd n.odd ≡ false → Compared (beq m.odd n.odd) c f g
-  odd_compared e =
-      let z : m.odd ≡ n.odd → ⊥ = subst (λ (t : Bool). Reflects t (m.odd ≡ n.odd)) e (beq_reflects m.odd n.odd) in
-      same_compared (beq m.odd n.odd) (reflects_no (beq m.odd n.odd) e (λ h. z h.0))
+-- the code compares what both say
+pub same_compared : (c : GridPoint) (f g : Shape) (m n : Membership) → m ≡ membership f c → n ≡ membership g c → (r : Bool) → r ≡ beq m.inside n.inside && beq m.odd n.odd → Compared r c f g
+same_compared c f g m n u v r e =
+    let same = e ∙ ap₂ (λ (m n : Membership). beq m.inside n.inside && beq m.odd n.odd) u v in
+    compared r c f g (subst (λ (b : Bool). Reflects b ((f.odd c ≡ g.odd c) × (f.inside c ≡ g.inside c))) (sym same) (both_equal (f.inside c) (g.inside c) (f.odd c) (g.odd c)))
 
 pub alike_exactly : AlikeExactly
 alike_exactly c f g = (alike_same c f g, same_alike c f g)

@@ -1,4 +1,4 @@
 mod Memberships
 mod Outlines
 mod Strings
-mod Alikes
+pub mod Alikes

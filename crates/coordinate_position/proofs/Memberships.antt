@@ -80,9 +80,6 @@ module _ (r : Box) (c : GridPoint) where
 
 -- ---- triangles
 
-pub equal_turns_reflect : (r : Bool) (a b c o p q : Orientation) → a ≡ o → b ≡ p → c ≡ q → Reflects r (TurnAlike a b c) → Reflects r (TurnAlike o p q)
-equal_turns_reflect r a b c o p q e f h t = reflects_same r (λ t. (sym e ∙ t.0 ∙ f, sym f ∙ t.1 ∙ h, λ n. t.2 (e ∙ n))) (λ t. (e ∙ t.0 ∙ sym f, f ∙ t.1 ∙ sym h, λ n. t.2 (sym e ∙ n))) t
-
 module _ (a b c : ℤ) where
   abbrev OneSign : Type 0
   OneSign = ((pos 0 <ℤ a) × ((pos 0 <ℤ b) × (pos 0 <ℤ c))) ⊎ ((a <ℤ pos 0) × ((b <ℤ pos 0) × (c <ℤ pos 0)))

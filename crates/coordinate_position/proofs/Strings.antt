@@ -1,17 +1,15 @@
 -- What the answers of line strings mean.
-use Rattle.std.proofs.Common.{◌≡◌, ◌≤◌, Bool, true, false, not, ◌&&◌, ◌||◌, ◌⊎◌, List, [], ◌∷◌, length, get_or, sym, refl, ap, subst, inl, inr, arith}
+use Rattle.std.proofs.Common.{◌≡◌, Bool, true, false, not, ◌&&◌, ◌||◌, ◌⊎◌, List, [], ◌∷◌, sym, refl, subst, inl, inr}
 use Rattle.plane.specs.declared.grid_point.GridPoint.{GridPoint}
 use Rattle.plane.specs.Points.{Segment}
-use Rattle.plane.specs.Reach.{read_point}
 use Rattle.plane.specs.Reflects.{Reflects, Iff}
 use Rattle.plane.specs.Sets.{At}
 use Rattle.plane.proofs.Answers.{reflects_same, and_reflects, not_reflects, or_reflects}
 use Rattle.plane.proofs.Segments.{at_self}
 use Rattle.plane.proofs.Containment.{at_is}
 use Rattle.polyline.specs.Segments.{OnAny}
-use Rattle.polyline.specs.Strings.{vertices, segments, last, Closed, AtEnd, StringInterior}
+use Rattle.polyline.specs.Strings.{segments, last, Closed, AtEnd, StringInterior}
 use Rattle.polyline.specs.Tests.{same, touches_any}
-use Rattle.polyline.proofs.Chains.{origin}
 use Rattle.polyline.proofs.Tests.{same_reflects, touches_any_reflects}
 use Rattle.coordinate_position.specs.declared.position.Membership.{Membership}
 use Rattle.coordinate_position.specs.Shapes.{membership, line_shape, string_shape}
@@ -76,33 +74,13 @@ string_inside (v ∷ (w ∷ (u ∷ us))) c =
     (not_reflects (AtOpenEnd vs c) ((string_shape vs).odd c) (string_odd vs c)))
 
 -- the words, from the value
-pub string_words : (vs : List GridPoint) (c : GridPoint) (m : Membership) → m ≡ membership (string_shape vs) c → Reflects m.inside (StringInterior vs c.x c.y 1) × Reflects m.odd (AtOpenEnd vs c)
-string_words vs c m e =
-    (subst (λ (b : Bool). Reflects b (StringInterior vs c.x c.y 1)) (ap (λ (n : Membership). n.inside) (sym e)) (string_inside vs c), subst (λ (b : Bool). Reflects b (AtOpenEnd vs c)) (ap (λ (n : Membership). n.odd) (sym e)) (string_odd vs c))
+module _ (vs : List GridPoint) (c : GridPoint) (m : Membership) (e : m ≡ membership (string_shape vs) c) where
+  pub inside_told : Reflects m.inside (StringInterior vs c.x c.y 1)
+  inside_told = subst (λ (n : Membership). Reflects n.inside (StringInterior vs c.x c.y 1)) (sym e) (string_inside vs c)
+
+  pub odd_told : Reflects m.odd (AtOpenEnd vs c)
+  odd_told = subst (λ (n : Membership). Reflects n.odd (AtOpenEnd vs c)) (sym e) (string_odd vs c)
 
 -- and the value, from the words
 pub string_membership : (vs : List GridPoint) (c : GridPoint) (m : Membership) → Reflects m.inside (StringInterior vs c.x c.y 1) → Reflects m.odd (AtOpenEnd vs c) → m ≡ membership (string_shape vs) c
 string_membership vs c m p q = same_membership (StringInterior vs c.x c.y 1) (AtOpenEnd vs c) m (string_shape vs) c p q (string_inside vs c) (string_odd vs c)
-
--- ---- points by their number
-
-pub no_vertex : (ps : List GridPoint) → length ps ≡ 0 → vertices ps ≡ []
-no_vertex [] e = refl
-no_vertex (p ∷ ps) e = absurd (omega arith)
-
-pub one_vertex : (ps : List GridPoint) → length ps ≡ 1 → vertices ps ≡ read_point (get_or ps 0 origin) ∷ []
-one_vertex [] e = absurd (omega arith)
-one_vertex (p ∷ []) e = refl
-one_vertex (p ∷ (q ∷ ps)) e = absurd (omega arith)
-
-pub two_vertices : (ps : List GridPoint) → length ps ≡ 2 → vertices ps ≡ read_point (get_or ps 0 origin) ∷ (read_point (get_or ps 1 origin) ∷ [])
-two_vertices [] e = absurd (omega arith)
-two_vertices (p ∷ []) e = absurd (omega arith)
-two_vertices (p ∷ (q ∷ [])) e = refl
-two_vertices (p ∷ (q ∷ (r ∷ ps))) e = absurd (omega arith)
-
--- two vertices and more have segments
-pub several_segments : (ps : List GridPoint) (c : GridPoint) → 2 ≤ length ps → Iff (OnAny (segments (vertices ps)) c.x c.y 1 × (AtEnd (vertices ps) c.x c.y 1 → Closed (vertices ps))) (StringInterior (vertices ps) c.x c.y 1)
-several_segments [] c h = absurd (omega arith)
-several_segments (p ∷ []) c h = absurd (omega arith)
-several_segments (p ∷ (q ∷ ps)) c h = among_segments (read_point p) (read_point q) (vertices ps) c

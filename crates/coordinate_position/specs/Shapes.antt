@@ -1,5 +1,6 @@
 -- What shapes mean: at every grid point, whether it is inside, and whether it is on the boundary an odd number of times.
-use Rattle.std.specs.Prelude.{◌≡◌, Bool, true, false, cond, not, ◌&&◌, ◌||◌, List, [], ◌∷◌, ℤ, pos, ◌≢◌, int_lt}
+use Rattle.std.specs.Prelude.{◌≡◌, Bool, false, cond, not, ◌&&◌, ◌||◌, List, [], ◌∷◌, ℤ, pos, ◌≢◌, int_lt}
+use Rattle.std.specs.Bool.{xor}
 use Rattle.plane.specs.declared.grid_point.GridPoint.{GridPoint}
 use Rattle.plane.specs.declared.orientation.Orientation.{Orientation}
 use Rattle.plane.specs.declared.orientation.Orientation.TheVariants.{Collinear}
@@ -24,11 +25,6 @@ membership f c = record { inside = f.inside c; odd = f.odd c }
 -- where a grid point lies
 abbrev pub position : Shape → GridPoint → CoordPos
 position f c = mod_2 (f.inside c) (f.odd c)
-
--- one of the two, and not both
-abbrev pub xor : Bool → Bool → Bool
-xor true b = not b
-xor false b = b
 
 -- a group of two shapes: inside if either says so, boundary counts added
 abbrev pub grouped : Shape → Shape → Shape

@@ -13,10 +13,10 @@ use scalar::coord_num::CoordNum;
 impl<T: GeoNum> CoordinatePosition for Coord<T> {
     type Scalar = T;
 
-    ghost shape = { λ s. coord_shape (grid_point T.CoordNum.units s) };
+    ghost shape = { λ s. coord_shape (grid_point T.units s) };
 
     fn calculate_coordinate_position(&self, coord: &Coord<T>) -> Membership
-        ensures value { result ≡ membership (coord_shape (grid_point T.CoordNum.units self.now)) (grid_point T.CoordNum.units coord.now) }
+        ensures value { result ≡ membership (coord_shape (grid_point T.units self.now)) (grid_point T.units coord.now) }
         ensures inside { Reflects result.inside (self.now ≡ coord.now) }
         ensures boundary { result.odd ≡ false }
     {

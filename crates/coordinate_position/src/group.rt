@@ -22,7 +22,7 @@ impl<A: CoordinatePosition, B: CoordinatePosition<Scalar = A::Scalar>> Coordinat
     ghost shape = { λ s. grouped (A.CoordinatePosition.shape s.first) (B.CoordinatePosition.shape s.second) };
 
     fn calculate_coordinate_position(&self, coord: &Coord<A::Scalar>) -> Membership
-        ensures value { result ≡ membership (grouped (A.CoordinatePosition.shape self.now.first) (B.CoordinatePosition.shape self.now.second)) (grid_point A.Scalar.CoordNum.units coord.now) }
+        ensures value { result ≡ membership (grouped (A.CoordinatePosition.shape self.now.first) (B.CoordinatePosition.shape self.now.second)) (grid_point A.Scalar.units coord.now) }
     {
         let first = self.first.calculate_coordinate_position(coord);
         let second = self.second.calculate_coordinate_position(coord);
@@ -40,7 +40,7 @@ impl<'a, A: CoordinatePosition> CoordinatePosition for &'a A {
     ghost shape = { λ s. A.CoordinatePosition.shape s.now };
 
     fn calculate_coordinate_position(&self, coord: &Coord<A::Scalar>) -> Membership
-        ensures value { result ≡ membership (A.CoordinatePosition.shape self.now.now) (grid_point A.Scalar.CoordNum.units coord.now) }
+        ensures value { result ≡ membership (A.CoordinatePosition.shape self.now.now) (grid_point A.Scalar.units coord.now) }
     {
         (**self).calculate_coordinate_position(coord)
     }

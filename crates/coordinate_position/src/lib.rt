@@ -27,11 +27,11 @@ pub trait CoordinatePosition {
     ghost shape: { Self → Shape };
 
     fn calculate_coordinate_position(&self, coord: &Coord<Self::Scalar>) -> Membership
-        ensures value { result ≡ membership (shape self.now) (grid_point Self.Scalar.CoordNum.units coord.now) };
+        ensures value { result ≡ membership (shape self.now) (grid_point Self.Scalar.units coord.now) };
 
     // The position by the mod 2 rule.
     fn coordinate_position(&self, coord: &Coord<Self::Scalar>) -> CoordPos
-        ensures { result ≡ position_in (shape self.now) (grid_point Self.Scalar.CoordNum.units coord.now) }
+        ensures { result ≡ position_in (shape self.now) (grid_point Self.Scalar.units coord.now) }
     {
         self.calculate_coordinate_position(coord).position()
     }

@@ -18,35 +18,27 @@ use scalar::coord_num::CoordNum;
 impl<T: GeoNum> CoordinatePosition for Line<T> {
     type Scalar = T;
 
-    ghost shape = { λ s. line_shape (segment T.CoordNum.units s) };
+    ghost shape = { λ s. line_shape (segment T.units s) };
 
     fn calculate_coordinate_position(&self, coord: &Coord<T>) -> Membership
-        ensures value { result ≡ membership (line_shape (segment T.CoordNum.units self.now)) (grid_point T.CoordNum.units coord.now) }
-        ensures inside { Reflects result.inside (Interior (segment T.CoordNum.units self.now) (T.CoordNum.units coord.now.x) (T.CoordNum.units coord.now.y) 1) }
-        ensures boundary { Reflects result.odd (LongerThanZero (segment T.CoordNum.units self.now) × ((grid_point T.CoordNum.units coord.now ≡ (segment T.CoordNum.units self.now).p) ⊎ (grid_point T.CoordNum.units coord.now ≡ (segment T.CoordNum.units self.now).q))) }
+        ensures value { result ≡ membership (line_shape (segment T.units self.now)) (grid_point T.units coord.now) }
+        ensures inside { Reflects result.inside (Interior (segment T.units self.now) (T.units coord.now.x) (T.units coord.now.y) 1) }
+        ensures boundary { Reflects result.odd (LongerThanZero (segment T.units self.now) × ((grid_point T.units coord.now ≡ (segment T.units self.now).p) ⊎ (grid_point T.units coord.now ≡ (segment T.units self.now).q))) }
     {
         // degenerate case: a coordinate
         if self.start == self.end {
-            return <Coord<_> as CoordinatePosition>::calculate_coordinate_position(
-                &self.start,
-                coord,
-            );
+            return self.start.calculate_coordinate_position(coord);
         }
-        if is_end(self, coord) {
-            return Membership {
-                inside: false,
-                odd: true,
-            };
-        }
+        let ends = is_end(self, coord);
         Membership {
-            inside: self.intersects(coord),
-            odd: false,
+            inside: !ends && self.intersects(coord),
+            odd: ends,
         }
     }
 }
 
 fn is_end<T: GeoNum>(line: &Line<T>, coord: &Coord<T>) -> bool
-    ensures { Reflects result ((coord.now ≡ line.now.start) ⊎ (coord.now ≡ line.now.end)) }
+    ensures { Reflects result ((grid_point T.units coord.now ≡ (segment T.units line.now).p) ⊎ (grid_point T.units coord.now ≡ (segment T.units line.now).q)) }
 {
     *coord == line.start || *coord == line.end
 }

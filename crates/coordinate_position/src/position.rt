@@ -9,7 +9,7 @@ pub enum CoordPos {
 }
 
 // What a shape says of a coordinate.
-#[derive(Clone, Copy)]
+#[derive(Clone, Copy, PartialEq, Eq, Debug)]
 pub struct Membership {
     // in the interior of some member
     pub inside: bool,

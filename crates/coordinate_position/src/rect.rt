@@ -20,22 +20,17 @@ use scalar::coord_num::CoordNum;
 impl<T: GeoNum> CoordinatePosition for Rect<T> {
     type Scalar = T;
 
-    ghost shape = { λ s. box_shape (box T.CoordNum.units s) };
+    ghost shape = { λ s. box_shape (box T.units s) };
 
     fn calculate_coordinate_position(&self, coord: &Coord<T>) -> Membership
-        ensures value { result ≡ membership (box_shape (box T.CoordNum.units self.now)) (grid_point T.CoordNum.units coord.now) }
-        ensures inside { Reflects result.inside (StrictlyInBox (box T.CoordNum.units self.now) (T.CoordNum.units coord.now.x) (T.CoordNum.units coord.now.y) 1) }
-        ensures boundary { Reflects result.odd (OnAny (outline (box T.CoordNum.units self.now)) (T.CoordNum.units coord.now.x) (T.CoordNum.units coord.now.y) 1) }
+        ensures value { result ≡ membership (box_shape (box T.units self.now)) (grid_point T.units coord.now) }
+        ensures inside { Reflects result.inside (StrictlyInBox (box T.units self.now) (T.units coord.now.x) (T.units coord.now.y) 1) }
+        ensures boundary { Reflects result.odd (OnAny (outline (box T.units self.now)) (T.units coord.now.x) (T.units coord.now.y) 1) }
     {
-        if self.contains(coord) {
-            return Membership {
-                inside: true,
-                odd: false,
-            };
-        }
+        let inside = self.contains(coord);
         Membership {
-            inside: false,
-            odd: self.intersects(coord),
+            inside,
+            odd: !inside && self.intersects(coord),
         }
     }
 }

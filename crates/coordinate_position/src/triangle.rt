@@ -21,12 +21,12 @@ use scalar::coord_num::CoordNum;
 impl<T: GeoNum> CoordinatePosition for Triangle<T> {
     type Scalar = T;
 
-    ghost shape = { λ s. triangle_shape (grid_point T.CoordNum.units s.v1) (grid_point T.CoordNum.units s.v2) (grid_point T.CoordNum.units s.v3) };
+    ghost shape = { λ s. triangle_shape (grid_point T.units s.v1) (grid_point T.units s.v2) (grid_point T.units s.v3) };
 
     fn calculate_coordinate_position(&self, coord: &Coord<T>) -> Membership
-        ensures value { result ≡ membership (triangle_shape (grid_point T.CoordNum.units self.now.v1) (grid_point T.CoordNum.units self.now.v2) (grid_point T.CoordNum.units self.now.v3)) (grid_point T.CoordNum.units coord.now) }
-        ensures inside { Reflects result.inside (TurnsAgree (grid_point T.CoordNum.units self.now.v1) (grid_point T.CoordNum.units self.now.v2) (grid_point T.CoordNum.units self.now.v3) (grid_point T.CoordNum.units coord.now)) }
-        ensures boundary { Reflects result.odd (OnAny (sides (grid_point T.CoordNum.units self.now.v1) (grid_point T.CoordNum.units self.now.v2) (grid_point T.CoordNum.units self.now.v3)) (T.CoordNum.units coord.now.x) (T.CoordNum.units coord.now.y) 1) }
+        ensures value { result ≡ membership (triangle_shape (grid_point T.units self.now.v1) (grid_point T.units self.now.v2) (grid_point T.units self.now.v3)) (grid_point T.units coord.now) }
+        ensures inside { Reflects result.inside (TurnsAgree (grid_point T.units self.now.v1) (grid_point T.units self.now.v2) (grid_point T.units self.now.v3) (grid_point T.units coord.now)) }
+        ensures boundary { Reflects result.odd (OnAny (sides (grid_point T.units self.now.v1) (grid_point T.units self.now.v2) (grid_point T.units self.now.v3)) (T.units coord.now.x) (T.units coord.now.y) 1) }
     {
         let o12 = T::Ker::orient2d(self.v1, self.v2, *coord);
         let o23 = T::Ker::orient2d(self.v2, self.v3, *coord);
@@ -46,20 +46,16 @@ fn turn_alike(a: Orientation, b: Orientation, c: Orientation) -> bool
 }
 
 fn touches_a_side<T: GeoNum>(triangle: &Triangle<T>, coord: &Coord<T>) -> bool
-    ensures { Reflects result (OnAny (sides (grid_point T.CoordNum.units triangle.now.v1) (grid_point T.CoordNum.units triangle.now.v2) (grid_point T.CoordNum.units triangle.now.v3)) (T.CoordNum.units coord.now.x) (T.CoordNum.units coord.now.y) 1) }
+    ensures { Reflects result (OnAny (sides (grid_point T.units triangle.now.v1) (grid_point T.units triangle.now.v2) (grid_point T.units triangle.now.v3)) (T.units coord.now.x) (T.units coord.now.y) 1) }
 {
-    if touches_side(triangle.v1, triangle.v2, coord) {
-        return true;
-    }
-    if touches_side(triangle.v2, triangle.v3, coord) {
-        return true;
-    }
-    touches_side(triangle.v3, triangle.v1, coord)
+    touches_side(triangle.v1, triangle.v2, coord)
+        || touches_side(triangle.v2, triangle.v3, coord)
+        || touches_side(triangle.v3, triangle.v1, coord)
 }
 
 // Whether the coordinate touches the side from `start` to `end`.
 fn touches_side<T: GeoNum>(start: Coord<T>, end: Coord<T>, coord: &Coord<T>) -> bool
-    ensures { Reflects result (Touches (record { p = grid_point T.CoordNum.units start; q = grid_point T.CoordNum.units end }) (grid_point T.CoordNum.units coord.now)) }
+    ensures { Reflects result (Touches (record { p = grid_point T.units start; q = grid_point T.units end }) (grid_point T.units coord.now)) }
 {
     Line::new(start, end).intersects(coord)
 }

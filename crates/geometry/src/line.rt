@@ -22,7 +22,7 @@ impl<T: CoordNum> Line<T> {
 
     // The line that two grid points are read as.
     pub fn from_grid(start: GridPoint, end: GridPoint) -> Line<T>
-        ensures { segment T.CoordNum.units result ≡ record { p = read_point start; q = read_point end } }
+        ensures { segment T.units result ≡ record { p = read_point start; q = read_point end } }
     {
         Line {
             start: Coord::from_grid(start),

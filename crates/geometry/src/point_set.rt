@@ -18,19 +18,19 @@ pub trait PointSet {
 }
 
 impl<T: CoordNum> PointSet for Coord<T> {
-    ghost points = { λ c. At (grid_point T.CoordNum.units c) };
+    ghost points = { λ c. At (grid_point T.units c) };
 
-    ghost interior = { λ c. At (grid_point T.CoordNum.units c) };
+    ghost interior = { λ c. At (grid_point T.units c) };
 }
 
 impl<T: CoordNum> PointSet for Line<T> {
-    ghost points = { λ l. On (segment T.CoordNum.units l) };
+    ghost points = { λ l. On (segment T.units l) };
 
-    ghost interior = { λ l. Interior (segment T.CoordNum.units l) };
+    ghost interior = { λ l. Interior (segment T.units l) };
 }
 
 impl<T: CoordNum> PointSet for Rect<T> {
-    ghost points = { λ r. InBox (box T.CoordNum.units r) };
+    ghost points = { λ r. InBox (box T.units r) };
 
-    ghost interior = { λ r. StrictlyInBox (box T.CoordNum.units r) };
+    ghost interior = { λ r. StrictlyInBox (box T.units r) };
 }

@@ -1,80 +1,68 @@
-ghost use Rattle.std.specs.Prelude.{◌≡◌, map};
-ghost use Rattle.std.specs.Int.{int_min, int_max};
+ghost use Rattle.std.specs.Prelude.{◌≡◌, ◌≤ℤ◌, map, ⊤};
 ghost use Rattle.plane.specs.Sets.{spanned};
 ghost use Rattle.scalar.specs.Coords.{grid_point};
 ghost use Rattle.geometry.specs.Shapes.{segment, outline};
-ghost use Rattle.geometry.specs.Rects.{box};
 
 use crate::line::Line;
 use scalar::coord::Coord;
 use scalar::coord_num::CoordNum;
+use scalar::units::Units;
+use std::alloc::AllocError;
 
 // A rectangle with its sides along the axes; it may be flat in one or both directions.
-#[derive(Clone, Copy, Debug)]
-pub struct Rect<T> {
+#[derive(Copy, Debug)]
+pub struct Rect<T: Units> {
     min: Coord<T>,
     max: Coord<T>,
+    ghost left_to_right: { T.units min.x ≤ℤ T.units max.x },
+    ghost bottom_to_top: { T.units min.y ≤ℤ T.units max.y },
 }
 
-fn lesser<T: CoordNum>(a: T, b: T) -> T
-    ensures { T.CoordNum.units result ≡ int_min (T.CoordNum.units a) (T.CoordNum.units b) }
-{
-    if a.at_most(b) { a } else { b }
-}
+impl<T: Units> Clone for Rect<T> {
+    ghost is_clone = { λ r s. s ≡ r };
 
-fn greater<T: CoordNum>(a: T, b: T) -> T
-    ensures { T.CoordNum.units result ≡ int_max (T.CoordNum.units a) (T.CoordNum.units b) }
-{
-    if a.at_most(b) { b } else { a }
-}
+    ghost is_infallible = { λ _. ⊤ };
 
-// The corner with the smaller x and the smaller y.
-fn low_corner<T: CoordNum>(a: Coord<T>, b: Coord<T>) -> Coord<T>
-    ensures { grid_point T.CoordNum.units result ≡ (spanned (grid_point T.CoordNum.units a) (grid_point T.CoordNum.units b)).min }
-{
-    Coord {
-        x: lesser(a.x, b.x),
-        y: lesser(a.y, b.y),
-    }
-}
-
-// The corner with the larger x and the larger y.
-fn high_corner<T: CoordNum>(a: Coord<T>, b: Coord<T>) -> Coord<T>
-    ensures { grid_point T.CoordNum.units result ≡ (spanned (grid_point T.CoordNum.units a) (grid_point T.CoordNum.units b)).max }
-{
-    Coord {
-        x: greater(a.x, b.x),
-        y: greater(a.y, b.y),
+    fn clone(&self) -> Result<Rect<T>, AllocError> {
+        Ok(*self)
     }
 }
 
 impl<T: CoordNum> Rect<T> {
+    ghost use Rattle.geometry.specs.Rects.{box};
+
     // The rectangle with the two as opposite corners: the smaller x and y go into its low corner.
     pub fn new(a: Coord<T>, b: Coord<T>) -> Rect<T>
-        ensures corners { box T.CoordNum.units result ≡ spanned (grid_point T.CoordNum.units a) (grid_point T.CoordNum.units b) }
-        ensures sorted { (grid_point T.CoordNum.units result.min ≡ (spanned (grid_point T.CoordNum.units a) (grid_point T.CoordNum.units b)).min) × (grid_point T.CoordNum.units result.max ≡ (spanned (grid_point T.CoordNum.units a) (grid_point T.CoordNum.units b)).max) }
+        ensures corners { box T.units result ≡ spanned (grid_point T.units a) (grid_point T.units b) }
+        ensures sorted { (grid_point T.units result.min ≡ (spanned (grid_point T.units a) (grid_point T.units b)).min) × (grid_point T.units result.max ≡ (spanned (grid_point T.units a) (grid_point T.units b)).max) }
     {
         Rect {
-            min: low_corner(a, b),
-            max: high_corner(a, b),
+            min: Coord {
+                x: a.x.min(b.x),
+                y: a.y.min(b.y),
+            },
+            max: Coord {
+                x: a.x.max(b.x),
+                y: a.y.max(b.y),
+            },
         }
     }
 
     pub fn min(&self) -> Coord<T>
-        ensures { grid_point T.CoordNum.units result ≡ (box T.CoordNum.units self.now).min }
+        ensures { grid_point T.units result ≡ (box T.units self.now).min }
     {
-        low_corner(self.min, self.max)
+        self.min
     }
 
     pub fn max(&self) -> Coord<T>
-        ensures { grid_point T.CoordNum.units result ≡ (box T.CoordNum.units self.now).max }
+        ensures { grid_point T.units result ≡ (box T.units self.now).max }
     {
-        high_corner(self.min, self.max)
+        self.max
     }
 
     // The four sides, counter-clockwise from the corner with the larger x and the smaller y.
     pub fn to_lines(&self) -> [Line<T>; 4]
-        ensures { map (segment T.CoordNum.units) result ≡ outline (box T.CoordNum.units self.now) }
+        ensures { map (segment T.units) result ≡ outline (box T.units self.now) }
     {
         let min = self.min();
         let max = self.max();

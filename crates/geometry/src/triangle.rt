@@ -23,7 +23,7 @@ impl<T: CoordNum> Triangle<T> {
 
     // The sides v1–v2, v2–v3 and v3–v1.
     pub fn to_lines(&self) -> [Line<T>; 3]
-        ensures { map (segment T.CoordNum.units) result ≡ sides (grid_point T.CoordNum.units self.now.v1) (grid_point T.CoordNum.units self.now.v2) (grid_point T.CoordNum.units self.now.v3) }
+        ensures { map (segment T.units) result ≡ sides (grid_point T.units self.now.v1) (grid_point T.units self.now.v2) (grid_point T.units self.now.v3) }
     {
         [
             Line::new(self.v1, self.v2),

@@ -1,8 +1,10 @@
-// Tests of the scalars, the kernels, the shapes and their relations on examples, at both scalars.
+// Tests of the scalars, the kernels, the shapes and their relations on examples, at both scalars, and of keyed corners.
 #![tactic(auto)]
 
 #[cfg(test)]
 mod containments;
+#[cfg(test)]
+mod keyed;
 #[cfg(test)]
 mod meetings;
 #[cfg(test)]

@@ -11,27 +11,28 @@ use geometry::rect::Rect;
 use kernel::geo_num::GeoNum;
 use scalar::coord::Coord;
 use scalar::coord_num::CoordNum;
+use scalar::units::Units;
 
 impl<T: CoordNum> Intersects<Coord<T>> for Coord<T> {
     fn intersects(&self, rhs: &Coord<T>) -> bool
-        ensures points { Reflects result (Common (At (grid_point T.CoordNum.units self.now)) (At (grid_point T.CoordNum.units rhs.now))) }
+        ensures points { Reflects result (Common (At (grid_point T.units self.now)) (At (grid_point T.units rhs.now))) }
     {
         *self == *rhs
     }
 }
 
 impl<T: GeoNum> Intersects<Line<T>> for Coord<T> {
-    fn intersects(&self, rhs: &Line<T>) -> bool
-        ensures points { Reflects result (Common (At (grid_point T.CoordNum.units self.now)) (On (segment T.CoordNum.units rhs.now))) }
+    fn intersects(&self, line: &Line<T>) -> bool
+        ensures points { Reflects result (Common (At (grid_point T.units self.now)) (On (segment T.units line.now))) }
     {
-        Line::intersects(rhs, self)
+        line.intersects(self)
     }
 }
 
 impl<T: CoordNum> Intersects<Rect<T>> for Coord<T> {
-    fn intersects(&self, rhs: &Rect<T>) -> bool
-        ensures points { Reflects result (Common (At (grid_point T.CoordNum.units self.now)) (InBox (box T.CoordNum.units rhs.now))) }
+    fn intersects(&self, rect: &Rect<T>) -> bool
+        ensures points { Reflects result (Common (At (grid_point T.units self.now)) (InBox (box T.units rect.now))) }
     {
-        Rect::intersects(rhs, self)
+        rect.intersects(self)
     }
 }

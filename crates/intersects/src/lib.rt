@@ -3,7 +3,7 @@
 
 pub mod coordinate;
 pub mod line;
-mod ranges;
+pub mod ranges;
 pub mod rect;
 
 ghost use Rattle.plane.specs.Reflects.{Reflects};

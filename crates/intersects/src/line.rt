@@ -15,12 +15,13 @@ use kernel::kernels::Kernel;
 use plane::orientation::Orientation;
 use scalar::coord::Coord;
 use scalar::coord_num::CoordNum;
+use scalar::units::Units;
 
 // A coordinate that touches the line.
 impl<T: GeoNum> Intersects<Coord<T>> for Line<T> {
     fn intersects(&self, rhs: &Coord<T>) -> bool
-        ensures points { Reflects result (Common (On (segment T.CoordNum.units self.now)) (At (grid_point T.CoordNum.units rhs.now))) }
-        ensures touches { Reflects result (Touches (segment T.CoordNum.units self.now) (grid_point T.CoordNum.units rhs.now)) }
+        ensures points { Reflects result (Common (On (segment T.units self.now)) (At (grid_point T.units rhs.now))) }
+        ensures touches { Reflects result (Touches (segment T.units self.now) (grid_point T.units rhs.now)) }
     {
         // on the line through both ends, and between them in both directions
         T::Ker::orient2d(self.start, self.end, *rhs) == Orientation::Collinear
@@ -30,20 +31,16 @@ impl<T: GeoNum> Intersects<Coord<T>> for Line<T> {
 
 // Of two lines on one line: whether an end of `line` lies in the rectangle of `l`, or the end of `l` in that of `line`.
 fn overlap_along<T: CoordNum>(l: &Line<T>, line: &Line<T>) -> bool
-    ensures { Reflects result (Ranges (segment T.CoordNum.units l.now) (T.CoordNum.units line.now.start.x) (T.CoordNum.units line.now.start.y) ⊎ (Ranges (segment T.CoordNum.units l.now) (T.CoordNum.units line.now.end.x) (T.CoordNum.units line.now.end.y) ⊎ Ranges (segment T.CoordNum.units line.now) (T.CoordNum.units l.now.end.x) (T.CoordNum.units l.now.end.y))) }
+    ensures { Reflects result (Ranges (segment T.units l.now) (T.units line.now.start.x) (T.units line.now.start.y) ⊎ (Ranges (segment T.units l.now) (T.units line.now.end.x) (T.units line.now.end.y) ⊎ Ranges (segment T.units line.now) (T.units l.now.end.x) (T.units l.now.end.y))) }
 {
-    if point_in_rect(line.start, l.start, l.end) {
-        return true;
-    }
-    if point_in_rect(line.end, l.start, l.end) {
-        return true;
-    }
-    point_in_rect(l.end, line.start, line.end)
+    point_in_rect(line.start, l.start, l.end)
+        || point_in_rect(line.end, l.start, l.end)
+        || point_in_rect(l.end, line.start, line.end)
 }
 
 impl<T: GeoNum> Intersects<Line<T>> for Line<T> {
     fn intersects(&self, line: &Line<T>) -> bool
-        ensures points { Reflects result (Common (On (segment T.CoordNum.units self.now)) (On (segment T.CoordNum.units line.now))) }
+        ensures points { Reflects result (Common (On (segment T.units self.now)) (On (segment T.units line.now))) }
     {
         // Special case: self is a point.
         if self.start == self.end {
@@ -66,7 +63,7 @@ impl<T: GeoNum> Intersects<Line<T>> for Line<T> {
 
 impl<T: GeoNum> Intersects<Rect<T>> for Line<T> {
     fn intersects(&self, rhs: &Rect<T>) -> bool
-        ensures points { Reflects result (Common (On (segment T.CoordNum.units self.now)) (InBox (box T.CoordNum.units rhs.now))) }
+        ensures points { Reflects result (Common (On (segment T.units self.now)) (InBox (box T.units rhs.now))) }
     {
         rhs.intersects(self)
     }

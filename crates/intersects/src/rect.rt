@@ -6,7 +6,6 @@ ghost use Rattle.geometry.specs.Shapes.{segment};
 ghost use Rattle.geometry.specs.Rects.{box};
 
 use crate::Intersects;
-use crate::ranges::value_in_range;
 use geometry::line::Line;
 use geometry::rect::Rect;
 use kernel::geo_num::GeoNum;
@@ -14,10 +13,11 @@ use kernel::kernels::Kernel;
 use plane::orientation::Orientation;
 use scalar::coord::Coord;
 use scalar::coord_num::CoordNum;
+use scalar::units::{Units, value_in_range};
 
 impl<T: CoordNum> Intersects<Coord<T>> for Rect<T> {
     fn intersects(&self, rhs: &Coord<T>) -> bool
-        ensures points { Reflects result (Common (InBox (box T.CoordNum.units self.now)) (At (grid_point T.CoordNum.units rhs.now))) }
+        ensures points { Reflects result (Common (InBox (box T.units self.now)) (At (grid_point T.units rhs.now))) }
     {
         let min = self.min();
         let max = self.max();
@@ -27,26 +27,26 @@ impl<T: CoordNum> Intersects<Coord<T>> for Rect<T> {
 
 impl<T: CoordNum> Intersects<Rect<T>> for Rect<T> {
     fn intersects(&self, other: &Rect<T>) -> bool
-        ensures points { Reflects result (Common (InBox (box T.CoordNum.units self.now)) (InBox (box T.CoordNum.units other.now))) }
+        ensures points { Reflects result (Common (InBox (box T.units self.now)) (InBox (box T.units other.now))) }
     {
         let (min, max) = (self.min(), self.max());
         let (other_min, other_max) = (other.min(), other.max());
-        if !other_min.x.at_most(max.x) {
+        if max.x < other_min.x {
             return false;
         }
-        if !other_min.y.at_most(max.y) {
+        if max.y < other_min.y {
             return false;
         }
-        if !min.x.at_most(other_max.x) {
+        if other_max.x < min.x {
             return false;
         }
-        min.y.at_most(other_max.y)
+        min.y <= other_max.y
     }
 }
 
 impl<T: GeoNum> Intersects<Line<T>> for Rect<T> {
     fn intersects(&self, rhs: &Line<T>) -> bool
-        ensures points { Reflects result (Common (InBox (box T.CoordNum.units self.now)) (On (segment T.CoordNum.units rhs.now))) }
+        ensures points { Reflects result (Common (InBox (box T.units self.now)) (On (segment T.units rhs.now))) }
     {
         if !self.intersects(&Rect::new(rhs.start, rhs.end)) {
             return false;

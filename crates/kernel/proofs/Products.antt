@@ -21,6 +21,9 @@ difference_within z w h k = (omega (arith, ints), omega (arith, ints))
 pub at_most_two_to_61 : (a b c e : ℤ) → Difference a × Difference b × Difference c × Difference e → AtMostTwoTo61 ((a *ℤ b) -ℤ (c *ℤ e))
 at_most_two_to_61 a b c e h = difference_within (a *ℤ b) (c *ℤ e) (product_within a b h.0 h.1) (product_within c e h.2 h.3)
 
+pub difference_fits : (z : ℤ) → Difference z → SFits w64 z
+difference_fits z h = omega (arith, ints)
+
 pub product_fits : (a b : ℤ) → Difference a → Difference b → SFits w64 (a *ℤ b)
 product_fits a b h k = omega (arith, ints, product_within a b h k)
 
@@ -30,6 +33,10 @@ cross_fits z h = omega (arith, ints)
 -- a difference as the machine passes it on
 pub difference_held : (r x y : ℤ) → SFits w64 r → SFits w32 x → SFits w32 y → r ≡ to_z w32 (of_z w32 x) -ℤ to_z w32 (of_z w32 y) → to_z w64 (of_z w64 r) ≡ x -ℤ y
 difference_held r x y f g h e = to_z-of_z w64 r f ∙ e ∙ (λ i. to_z-of_z w32 x g i -ℤ to_z-of_z w32 y h i)
+
+-- the same of two numbers that mean u and v
+pub units_apart : (r x y u v : ℤ) → SFits w64 r → SFits w32 x → SFits w32 y → r ≡ to_z w32 (of_z w32 x) -ℤ to_z w32 (of_z w32 y) → x ≡ u → y ≡ v → to_z w64 (of_z w64 r) ≡ u -ℤ v
+units_apart r x y u v f g h e p q = difference_held r x y f g h e ∙ (λ i. p i -ℤ q i)
 
 pub bound_held : (r : ℤ) → SFits w64 r → Difference r → Difference (to_z w64 (of_z w64 r))
 bound_held r f h = subst (λ (z : ℤ). Difference z) (sym (to_z-of_z w64 r f)) h

@@ -6,6 +6,7 @@ use crate::kernels::{Kernel, ScreeningKernel, SimpleKernel};
 use scalar::coord_num::CoordNum;
 use scalar::f64_scalar::F64Scalar;
 use scalar::i32_scalar::I32Scalar;
+use scalar::units::Units;
 use std::cmp::Ordering;
 
 pub trait GeoNum: CoordNum {
@@ -13,15 +14,9 @@ pub trait GeoNum: CoordNum {
 
     // The order of the units.
     fn total_cmp(&self, other: &Self) -> Ordering
-        ensures { MatchOrdering result (Self.CoordNum.units self.now <ℤ Self.CoordNum.units other.now) (self.now ≡ other.now) (Self.CoordNum.units other.now <ℤ Self.CoordNum.units self.now) }
+        ensures { MatchOrdering result (Self.units self.now <ℤ Self.units other.now) (self.now ≡ other.now) (Self.units other.now <ℤ Self.units self.now) }
     {
-        if !other.at_most(*self) {
-            Ordering::Less
-        } else if self.at_most(*other) {
-            Ordering::Equal
-        } else {
-            Ordering::Greater
-        }
+        self.cmp(other)
     }
 }
 

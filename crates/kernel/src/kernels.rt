@@ -2,16 +2,17 @@ ghost use Rattle.std.specs.Prelude.{◌≡◌};
 ghost use Rattle.plane.specs.Orient.{det, orientation, AtMostTwoTo61};
 ghost use Rattle.scalar.specs.Coords.{grid_point};
 
-use crate::signs::{determinant, orientation_of, screened_orientation};
+use crate::signs::{Factors, orientation_of};
 use plane::orientation::Orientation;
 use scalar::coord::Coord;
 use scalar::coord_num::CoordNum;
+use scalar::units::Units;
 
 pub trait Kernel<T: CoordNum> {
     // The sign of twice the signed area of the triangle p, q, r, in units: above zero is counter-clockwise.
     fn orient2d(p: Coord<T>, q: Coord<T>, r: Coord<T>) -> Orientation
-        ensures turn { result ≡ orientation (det (grid_point T.CoordNum.units p) (grid_point T.CoordNum.units q) (grid_point T.CoordNum.units r)) }
-        ensures bounded { AtMostTwoTo61 (det (grid_point T.CoordNum.units p) (grid_point T.CoordNum.units q) (grid_point T.CoordNum.units r)) };
+        ensures turn { result ≡ orientation (det (grid_point T.units p) (grid_point T.units q) (grid_point T.units r)) }
+        ensures bounded { AtMostTwoTo61 (det (grid_point T.units p) (grid_point T.units q) (grid_point T.units r)) };
 }
 
 // Multiplies.
@@ -19,10 +20,10 @@ pub struct SimpleKernel;
 
 impl<T: CoordNum> Kernel<T> for SimpleKernel {
     fn orient2d(p: Coord<T>, q: Coord<T>, r: Coord<T>) -> Orientation
-        ensures turn { result ≡ orientation (det (grid_point T.CoordNum.units p) (grid_point T.CoordNum.units q) (grid_point T.CoordNum.units r)) }
-        ensures bounded { AtMostTwoTo61 (det (grid_point T.CoordNum.units p) (grid_point T.CoordNum.units q) (grid_point T.CoordNum.units r)) }
+        ensures turn { result ≡ orientation (det (grid_point T.units p) (grid_point T.units q) (grid_point T.units r)) }
+        ensures bounded { AtMostTwoTo61 (det (grid_point T.units p) (grid_point T.units q) (grid_point T.units r)) }
     {
-        orientation_of(determinant(p.to_grid(), q.to_grid(), r.to_grid()))
+        orientation_of(Factors::new(p, q, r).determinant())
     }
 }
 
@@ -31,9 +32,9 @@ pub struct ScreeningKernel;
 
 impl<T: CoordNum> Kernel<T> for ScreeningKernel {
     fn orient2d(p: Coord<T>, q: Coord<T>, r: Coord<T>) -> Orientation
-        ensures turn { result ≡ orientation (det (grid_point T.CoordNum.units p) (grid_point T.CoordNum.units q) (grid_point T.CoordNum.units r)) }
-        ensures bounded { AtMostTwoTo61 (det (grid_point T.CoordNum.units p) (grid_point T.CoordNum.units q) (grid_point T.CoordNum.units r)) }
+        ensures turn { result ≡ orientation (det (grid_point T.units p) (grid_point T.units q) (grid_point T.units r)) }
+        ensures bounded { AtMostTwoTo61 (det (grid_point T.units p) (grid_point T.units q) (grid_point T.units r)) }
     {
-        screened_orientation(p.to_grid(), q.to_grid(), r.to_grid())
+        Factors::new(p, q, r).screened_orientation()
     }
 }

@@ -1,23 +1,25 @@
 // The sign of the determinant, in whole units.
 ghost use Rattle.std.specs.Prelude.{◌≡◌, ◌-ℤ◌, ◌*ℤ◌};
-ghost use Rattle.plane.specs.Orient.{det, orientation, AtMostTwoTo61};
-ghost use Rattle.plane.specs.Reach.{Within, WithinReach};
-ghost use Rattle.kernel.specs.Signs.{Difference, signum};
+ghost use Rattle.std.specs.Int.{int_signum};
+ghost use Rattle.plane.specs.Orient.{orientation, AtMostTwoTo61};
+ghost use Rattle.plane.specs.Reach.{Within};
+ghost use Rattle.kernel.specs.Signs.{Difference};
 
 use plane::grid_point::GridPoint;
 use plane::orientation::Orientation;
+use scalar::coord::Coord;
+use scalar::coord_num::CoordNum;
+use scalar::units::Units;
+use std::cmp::Ordering;
 
-// The factors of the determinant's two products.
-fn factors(p: GridPoint, q: GridPoint, r: GridPoint) -> (i64, i64, i64, i64)
-    requires { WithinReach p × WithinReach q × WithinReach r }
-    ensures value { (result.0 ≡ q.x -ℤ p.x) × (result.1 ≡ r.y -ℤ q.y) × (result.2 ≡ q.y -ℤ p.y) × (result.3 ≡ r.x -ℤ q.x) }
-    ensures bounded { Difference result.0 × Difference result.1 × Difference result.2 × Difference result.3 }
-{
-    let a = difference(q.x, p.x);
-    let b = difference(r.y, q.y);
-    let c = difference(q.y, p.y);
-    let e = difference(r.x, q.x);
-    (a, b, c, e)
+// The factors of the determinant's two products: it is a * b - c * e.
+#[derive(Clone, Copy)]
+pub(crate) struct Factors {
+    a: i64,
+    b: i64,
+    c: i64,
+    e: i64,
+    ghost bounded: { Difference a × Difference b × Difference c × Difference e },
 }
 
 // a - b.
@@ -28,84 +30,59 @@ fn difference(a: i32, b: i32) -> i64
     a as i64 - b as i64
 }
 
-// a * b - c * e.
-fn cross(a: i64, b: i64, c: i64, e: i64) -> i64
-    requires { Difference a × Difference b × Difference c × Difference e }
-    ensures { (result ≡ (a *ℤ b) -ℤ (c *ℤ e)) × AtMostTwoTo61 result }
-{
-    a * b - c * e
-}
-
 pub(crate) fn orientation_of(d: i64) -> Orientation
     ensures { result ≡ orientation d }
 {
-    if d > 0 {
-        Orientation::CounterClockwise
-    } else if d < 0 {
-        Orientation::Clockwise
-    } else {
-        Orientation::Collinear
+    match d.cmp(&0) {
+        Ordering::Greater => Orientation::CounterClockwise,
+        Ordering::Less => Orientation::Clockwise,
+        Ordering::Equal => Orientation::Collinear,
     }
 }
 
-pub(crate) fn determinant(p: GridPoint, q: GridPoint, r: GridPoint) -> i64
-    requires { WithinReach p × WithinReach q × WithinReach r }
-    ensures { (result ≡ det p q r) × AtMostTwoTo61 (det p q r) }
+// The sign of a * b, without multiplying the two: -1, 0 or 1.
+fn product_sign(a: i64, b: i64) -> i64
+    ensures { result ≡ int_signum (a *ℤ b) }
 {
-    let (a, b, c, e) = factors(p, q, r);
-    cross(a, b, c, e)
+    a.signum() * b.signum()
 }
 
-// -1, 0 or 1.
-fn sign(a: i64) -> i8
-    ensures { result ≡ signum a }
-{
-    if a > 0 {
-        1
-    } else if a < 0 {
-        -1
-    } else {
-        0
+impl Factors {
+    // Those of the turn from p by q to r.
+    pub(crate) fn new<T: CoordNum>(p: Coord<T>, q: Coord<T>, r: Coord<T>) -> Factors
+        ensures { (result.a ≡ T.units q.x -ℤ T.units p.x) × (result.b ≡ T.units r.y -ℤ T.units q.y) × (result.c ≡ T.units q.y -ℤ T.units p.y) × (result.e ≡ T.units r.x -ℤ T.units q.x) }
+    {
+        let (p, q, r) = (GridPoint::from(p), GridPoint::from(q), GridPoint::from(r));
+        Factors {
+            a: difference(q.x, p.x),
+            b: difference(r.y, q.y),
+            c: difference(q.y, p.y),
+            e: difference(r.x, q.x),
+        }
     }
-}
 
-// The sign of a * b, without multiplying.
-fn product_sign(a: i64, b: i64) -> i8
-    ensures { result ≡ signum (a *ℤ b) }
-{
-    if a > 0 {
-        sign(b)
-    } else if a < 0 {
-        -sign(b)
-    } else {
-        0
+    pub(crate) fn determinant(self) -> i64
+        ensures { (result ≡ (self.a *ℤ self.b) -ℤ (self.c *ℤ self.e)) × AtMostTwoTo61 result }
+    {
+        self.a * self.b - self.c * self.e
     }
-}
 
-// The orientation that a * b - c * e tells, with the products worked out only where both are positive or both negative.
-fn screened(a: i64, b: i64, c: i64, e: i64) -> Orientation
-    requires { Difference a × Difference b × Difference c × Difference e }
-    ensures turn { result ≡ orientation ((a *ℤ b) -ℤ (c *ℤ e)) }
-    ensures bounded { AtMostTwoTo61 ((a *ℤ b) -ℤ (c *ℤ e)) }
-{
-    let left = product_sign(a, b);
-    let right = product_sign(c, e);
-    if left > right {
-        Orientation::CounterClockwise
-    } else if left < right {
-        Orientation::Clockwise
-    } else if left == 0 {
-        Orientation::Collinear
-    } else {
-        orientation_of(cross(a, b, c, e))
+    // The orientation that the determinant tells, with the products worked out only where both are positive or both
+    // negative.
+    pub(crate) fn screened_orientation(self) -> Orientation
+        ensures turn { result ≡ orientation ((self.a *ℤ self.b) -ℤ (self.c *ℤ self.e)) }
+        ensures bounded { AtMostTwoTo61 ((self.a *ℤ self.b) -ℤ (self.c *ℤ self.e)) }
+    {
+        let left = product_sign(self.a, self.b);
+        let right = product_sign(self.c, self.e);
+        if left > right {
+            Orientation::CounterClockwise
+        } else if left < right {
+            Orientation::Clockwise
+        } else if left == 0 {
+            Orientation::Collinear
+        } else {
+            orientation_of(self.determinant())
+        }
     }
-}
-
-pub(crate) fn screened_orientation(p: GridPoint, q: GridPoint, r: GridPoint) -> Orientation
-    requires { WithinReach p × WithinReach q × WithinReach r }
-    ensures turn { result ≡ orientation (det p q r) }
-    ensures bounded { AtMostTwoTo61 (det p q r) }
-{
-    let (a, b, c, e) = factors(p, q, r);
-    screened(a, b, c, e)
 }

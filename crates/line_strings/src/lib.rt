@@ -4,6 +4,5 @@
 
 pub mod line_string;
 pub mod lines;
-pub mod ranges;
 mod touching;
 mod trimming;

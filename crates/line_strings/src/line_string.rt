@@ -3,10 +3,11 @@ ghost use Rattle.plane.specs.Reflects.{Reflects};
 ghost use Rattle.polyline.specs.Segments.{OnAny, Covered};
 ghost use Rattle.polyline.specs.Strings.{vertices, segments, Closed, AllEqual, AtEnd, OnString, StringInterior};
 ghost use Rattle.geometry.specs.Shapes.{segment};
+ghost use Rattle.line_strings.specs.Views.{vertices_of};
 
 use crate::lines::Lines;
-use crate::touching::any_touched;
-use crate::trimming::covers_longer;
+use crate::touching::is_touched;
+use crate::trimming::Target;
 use geometry::line::Line;
 use geometry::point_set::PointSet;
 use kernel::geo_num::GeoNum;
@@ -42,7 +43,7 @@ impl<'a, T: GeoNum> LineString<'a, T> {
 
     // Whether the first vertex equals the last; none or one is closed.
     pub fn is_closed(&self) -> bool
-        ensures { Reflects result (Closed (vertices self.now.points.now)) }
+        ensures { Reflects result (Closed (vertices_of self.now)) }
     {
         match self.points {
             [first, .., last] => Coord::<T>::from_grid(*first) == Coord::<T>::from_grid(*last),
@@ -52,23 +53,19 @@ impl<'a, T: GeoNum> LineString<'a, T> {
 
     // Whether all vertices are equal, so that no segment is longer than zero.
     pub fn all_equal(&self) -> bool
-        ensures { Reflects result (AllEqual (vertices self.now.points.now)) }
+        ensures { Reflects result (AllEqual (vertices_of self.now)) }
     {
-        let Some((first, rest)) = self.points.split_first() else {
+        let [first, rest @ ..] = self.points else {
             return true;
         };
         let first = Coord::<T>::from_grid(*first);
-        for point in rest {
-            if Coord::<T>::from_grid(*point) != first {
-                return false;
-            }
-        }
-        true
+        rest.iter()
+            .all(|point| Coord::<T>::from_grid(*point) == first)
     }
 
     // Whether the coordinate is the first vertex or the last.
     pub fn ends_at(&self, coord: &Coord<T>) -> bool
-        ensures { Reflects result (AtEnd (vertices self.now.points.now) (T.CoordNum.units coord.now.x) (T.CoordNum.units coord.now.y) 1) }
+        ensures { Reflects result (AtEnd (vertices_of self.now) (T.units coord.now.x) (T.units coord.now.y) 1) }
     {
         match self.points {
             [] => false,
@@ -81,25 +78,27 @@ impl<'a, T: GeoNum> LineString<'a, T> {
 
     // Whether the coordinate touches some segment.
     pub fn touches(&self, coord: &Coord<T>) -> bool
-        ensures { Reflects result (OnAny (segments (vertices self.now.points.now)) (T.CoordNum.units coord.now.x) (T.CoordNum.units coord.now.y) 1) }
+        ensures { Reflects result (OnAny (segments (vertices_of self.now)) (T.units coord.now.x) (T.units coord.now.y) 1) }
     {
-        any_touched(self.points, coord)
+        self.points
+            .array_windows::<2>()
+            .any(|[start, end]| is_touched(*start, *end, coord))
     }
 
     // Whether each point of the line lies on some segment.
     pub fn covers(&self, line: &Line<T>) -> bool
-        ensures { Reflects result (Covered (segments (vertices self.now.points.now)) (segment T.CoordNum.units line.now)) }
+        ensures { Reflects result (Covered (segments (vertices_of self.now)) (segment T.units line.now)) }
     {
         if line.start == line.end {
             self.touches(&line.start)
         } else {
-            covers_longer(self.points, line)
+            Target::new(line).is_covered_by(self.points)
         }
     }
 }
 
 impl<'a, T: GeoNum> PointSet for LineString<'a, T> {
-    ghost points = { λ s. OnString (vertices s.points.now) };
+    ghost points = { λ s. OnString (vertices_of s) };
 
-    ghost interior = { λ s. StringInterior (vertices s.points.now) };
+    ghost interior = { λ s. StringInterior (vertices_of s) };
 }

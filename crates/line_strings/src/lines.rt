@@ -1,8 +1,8 @@
 // The lines of a line string, one after the other.
-ghost use Rattle.std.specs.Prelude.{◌≡◌, [], ◌∷◌, length, MatchOption};
+ghost use Rattle.std.specs.Prelude.{◌≡◌, length};
 ghost use Rattle.polyline.specs.Strings.{vertices, segments};
 ghost use Rattle.geometry.specs.Shapes.{segment};
-ghost use Rattle.std.specs.Iterator.{at_most};
+ghost use Rattle.std.specs.Iterator.{YieldsFirstBy, at_most};
 
 use geometry::line::Line;
 use kernel::geo_num::GeoNum;
@@ -32,16 +32,16 @@ impl<'a, T: GeoNum> Lines<'a, T> {
 impl<'a, T: GeoNum> Iterator for Lines<'a, T> {
     type Item = Line<T>;
 
-    ghost next_gives = { λ s r t. MatchOption r (segments (vertices s.points.now) ≡ []) (λ l. segments (vertices s.points.now) ≡ segment T.CoordNum.units l ∷ segments (vertices t.points.now)) };
+    ghost next_gives = { YieldsFirstBy (segment T.units) (λ s. segments (vertices s.points.now)) };
 
     ghost remaining = { λ s. at_most (length s.points.now) };
 
     fn next(&mut self) -> Option<Line<T>> {
-        let [start, end, ..] = self.points else {
+        let [start, rest @ ..] = self.points else {
             return None;
         };
-        let line = Line::from_grid(*start, *end);
-        self.points = &self.points[1..];
-        Some(line)
+        let end = rest.first()?;
+        self.points = rest;
+        Some(Line::from_grid(*start, *end))
     }
 }

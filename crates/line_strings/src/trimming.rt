@@ -11,6 +11,7 @@ ghost use Rattle.polyline.specs.Strings.{vertices, segments};
 ghost use Rattle.polyline.specs.Trimming.{is_vertical, ordered, span, apart, trimmed, along, trim_by, round};
 ghost use Rattle.scalar.specs.Coords.{grid_point};
 ghost use Rattle.geometry.specs.Shapes.{segment};
+ghost use Rattle.line_strings.specs.Axes.{is_y};
 
 use geometry::line::Line;
 use kernel::geo_num::GeoNum;
@@ -39,17 +40,13 @@ fn trim(stretch: (i32, i32), by: (i32, i32)) -> (i32, i32)
     ensures { result ≡ trimmed stretch by }
 {
     if are_apart(stretch, by) {
-        stretch
-    } else if by.0 <= stretch.0 {
-        if stretch.1 <= by.1 {
-            (stretch.1, stretch.1)
-        } else {
-            (by.1, stretch.1)
-        }
-    } else if stretch.1 <= by.1 {
-        (stretch.0, by.0)
-    } else {
-        stretch
+        return stretch;
+    }
+    match (by.0 <= stretch.0, stretch.1 <= by.1) {
+        (true, true) => (stretch.1, stretch.1),
+        (true, false) => (by.1, stretch.1),
+        (false, true) => (stretch.0, by.0),
+        (false, false) => stretch,
     }
 }
 
@@ -60,93 +57,100 @@ fn is_gone(stretch: (i32, i32)) -> bool
     stretch.0 == stretch.1
 }
 
-// Where the segment between two vertices begins and ends along the axis.
-fn span_between(along_y: bool, start: GridPoint, end: GridPoint) -> (i32, i32)
-    ensures { result ≡ span along_y (record { p = read_point start; q = read_point end }) }
-{
-    if along_y {
-        in_order(read_units(start.y), read_units(end.y))
-    } else {
-        in_order(read_units(start.x), read_units(end.x))
-    }
+// What stretches are measured along.
+#[derive(Clone, Copy)]
+enum Axis {
+    X,
+    Y,
 }
 
-fn is_line_vertical<T: CoordNum>(line: &Line<T>) -> bool
-    ensures { result ≡ is_vertical (segment T.CoordNum.units line.now) }
-{
-    line.start.x.same(line.end.x)
-}
-
-// Whether the vertex lies on the line through both ends of `line`.
-fn is_collinear<T: GeoNum>(line: &Line<T>, vertex: GridPoint) -> bool
-    ensures { result ≡ collinear (grid_point T.CoordNum.units line.now.start) (grid_point T.CoordNum.units line.now.end) (read_point vertex) }
-{
-    T::Ker::orient2d(line.start, line.end, Coord::from_grid(vertex)) == Orientation::Collinear
-}
-
-// What the segment between two vertices leaves of a stretch of the line. The spans are compared before any product is
-// worked out.
-fn trim_by_segment<T: GeoNum>(
-    line: &Line<T>,
-    along_y: bool,
-    stretch: (i32, i32),
-    start: GridPoint,
-    end: GridPoint,
-) -> (i32, i32)
-    requires { along_y ≡ is_vertical (segment T.CoordNum.units line.now) }
-    ensures { result ≡ trim_by (segment T.CoordNum.units line.now) stretch (record { p = read_point start; q = read_point end }) }
-{
-    let by = span_between(along_y, start, end);
-    if are_apart(stretch, by) {
-        return stretch;
-    }
-    if is_collinear(line, start) && is_collinear(line, end) {
-        trim(stretch, by)
-    } else {
-        stretch
-    }
-}
-
-// One round of trimming over all segments.
-fn trim_round<T: GeoNum>(
-    points: &[GridPoint],
-    line: &Line<T>,
-    along_y: bool,
-    stretch: (i32, i32),
-) -> (i32, i32)
-    requires { along_y ≡ is_vertical (segment T.CoordNum.units line.now) }
-    ensures { result ≡ round (segment T.CoordNum.units line.now) stretch (segments (vertices points.now)) }
-{
-    let Some((first, rest)) = points.split_first() else {
-        return stretch;
-    };
-    let mut left = stretch;
-    let mut start = *first;
-    for point in rest {
-        left = trim_by_segment(line, along_y, left, start, *point);
-        if is_gone(left) {
-            return left;
+impl Axis {
+    // Where the segment between two vertices begins and ends along the axis.
+    fn span(self, start: GridPoint, end: GridPoint) -> (i32, i32)
+        ensures { result ≡ span (is_y self) (record { p = read_point start; q = read_point end }) }
+    {
+        match self {
+            Axis::X => in_order(read_units(start.x), read_units(end.x)),
+            Axis::Y => in_order(read_units(start.y), read_units(end.y)),
         }
-        start = *point;
     }
-    left
 }
 
-// Whether the segments cover a line that is longer than zero.
-pub(crate) fn covers_longer<T: GeoNum>(points: &[GridPoint], line: &Line<T>) -> bool
-    requires { LongerThanZero (segment T.CoordNum.units line.now) }
-    ensures { Reflects result (Covered (segments (vertices points.now)) (segment T.CoordNum.units line.now)) }
-{
-    let along_y = is_line_vertical(line);
-    let mut left = span_between(along_y, line.start.to_grid(), line.end.to_grid());
-    loop {
-        let next = trim_round(points, line, along_y, left);
-        if next.1 <= next.0 {
-            return true;
+// The line to be covered, with the axis that stretches of it are measured along.
+#[derive(Drop)]
+pub(crate) struct Target<'l, T: GeoNum> {
+    line: &'l Line<T>,
+    axis: Axis,
+    ghost measured: { is_y axis ≡ is_vertical (segment T.units line.now) },
+}
+
+impl<'l, T: GeoNum> Target<'l, T> {
+    pub(crate) fn new(line: &'l Line<T>) -> Target<'l, T>
+        ensures { result.line.now ≡ line.now }
+    {
+        let is_vertical = line.start.x == line.end.x;
+        Target {
+            line,
+            axis: if is_vertical { Axis::Y } else { Axis::X },
         }
-        if next.0 <= left.0 && left.1 <= next.1 {
-            return false;
+    }
+
+    // All of the line.
+    fn stretch(&self) -> (i32, i32)
+        ensures { result ≡ span (is_vertical (segment T.units self.now.line.now)) (segment T.units self.now.line.now) }
+    {
+        self.axis.span(self.line.start.into(), self.line.end.into())
+    }
+
+    // Whether the vertex lies on the line through both ends.
+    fn is_collinear(&self, vertex: GridPoint) -> bool
+        ensures { result ≡ collinear (grid_point T.units self.now.line.now.start) (grid_point T.units self.now.line.now.end) (read_point vertex) }
+    {
+        let vertex = Coord::from_grid(vertex);
+        T::Ker::orient2d(self.line.start, self.line.end, vertex) == Orientation::Collinear
+    }
+
+    // What the segment between two vertices leaves of a stretch. The spans are compared before any product is worked
+    // out.
+    fn trim_by_segment(&self, stretch: (i32, i32), start: GridPoint, end: GridPoint) -> (i32, i32)
+        ensures { result ≡ trim_by (segment T.units self.now.line.now) stretch (record { p = read_point start; q = read_point end }) }
+    {
+        let by = self.axis.span(start, end);
+        if !are_apart(stretch, by) && self.is_collinear(start) && self.is_collinear(end) {
+            trim(stretch, by)
+        } else {
+            stretch
         }
-        left = next;
+    }
+
+    // One round of trimming over all segments.
+    fn trim_round(&self, stretch: (i32, i32), points: &[GridPoint]) -> (i32, i32)
+        ensures { result ≡ round (segment T.units self.now.line.now) stretch (segments (vertices points.now)) }
+    {
+        let mut left = stretch;
+        for [start, end] in points.array_windows::<2>() {
+            left = self.trim_by_segment(left, *start, *end);
+            if is_gone(left) {
+                return left;
+            }
+        }
+        left
+    }
+    // Whether the segments cover the line, if it is longer than zero.
+    pub(crate) fn is_covered_by(&self, points: &[GridPoint]) -> bool
+        requires { LongerThanZero (segment T.units self.now.line.now) }
+        ensures { Reflects result (Covered (segments (vertices points.now)) (segment T.units self.now.line.now)) }
+    {
+        let mut left = self.stretch();
+        loop {
+            let next = self.trim_round(left, points);
+            if next.1 <= next.0 {
+                return true;
+            }
+            if next == left {
+                return false;
+            }
+            left = next;
+        }
     }
 }

@@ -3,174 +3,101 @@
 #![tactic(auto)]
 
 use contains::Contains;
-use geometry::line::Line;
 use geometry::rect::Rect;
 use intersects::Intersects;
 use kernel::geo_num::GeoNum;
+use keyed_corners::{OUTLINE, grid_corners, print_corners};
+use line_strings::line_string::LineString;
 use plane::grid_point::GridPoint;
 use scalar::coord::Coord;
 use scalar::coord_num::CoordNum;
 use scalar::f64_scalar::F64Scalar;
-use scalar::fault::F64Fault;
 use scalar::i32_scalar::I32Scalar;
-use std::{fmt, io};
+use std::io;
 
 // Lengths in millimetres that show the step of the grid and the end of its reach.
 const LENGTHS: [f64; 4] = [0.00390625, 0.001, 2097152.0, 2097152.00390625];
 
-// The corners of the outline as they were keyed in, in millimetres; one of them misses the grid and is keyed in again.
-const OUTLINE: [(f64, f64); 8] = [
-    (0.0, 0.0),
-    (80.0, 0.0),
-    (80.0, 30.25),
-    (45.1, 30.25),
-    (45.5, 30.25),
-    (45.5, 60.0),
-    (0.0, 60.0),
-    (0.0, 0.0),
-];
-
 // Opposite corners of the clamp.
 const CLAMP: [(f64, f64); 2] = [(90.0, -5.0), (70.25, 12.5)];
 
-// A coordinate as it is printed.
-#[derive(Drop)]
-struct Millimetres(Coord<F64Scalar>);
-
-impl fmt::Display for Millimetres {
-    fn fmt<W: fmt::Write>(&self, f: &mut fmt::Formatter<W>) -> fmt::Result {
-        write!(f, "({}, {})", self.0.x.raw(), self.0.y.raw())
-    }
-}
-
-// Prints a refusal with its number and the float that it carries.
-fn print_refusal(rt: &HostRuntime, fault: F64Fault) -> io::Result<()> {
-    print!(rt; " refused with {}: ", fault.number())?;
-    match fault {
-        F64Fault::NotANumber => println!(rt; "not a number"),
-        F64Fault::BeyondReach(value) => println!(rt; "{value} mm is beyond reach"),
-        F64Fault::OffGrid(value) => println!(rt; "{value} mm is off the grid"),
-    }
-}
-
 // Prints what a number of millimetres means.
-fn print_length(rt: &HostRuntime, x: f64) -> io::Result<()> {
-    print!(rt; "  {x} mm is")?;
+fn print_length(rt: &impl Print, x: f64) -> io::Result<()> {
     match F64Scalar::new(x) {
-        Ok(s) => println!(rt; " {}", s.to_units()),
-        Err(fault) => print_refusal(rt, fault),
+        Ok(s) => println!(rt; "  {x} mm is {}", s.to_units()),
+        Err(fault) => println!(rt; "  {x} mm is refused with {}: {fault}", fault.number()),
     }
 }
 
-// Prints what became of a corner, and keeps it if it is on the grid.
-fn take_corner(rt: &HostRuntime, x: f64, y: f64, corners: &mut Vec<GridPoint>) -> io::Result<()> {
-    match Coord::<F64Scalar>::new(x, y) {
-        Ok(c) => {
-            let p = c.to_grid();
-            corners.push(p)?;
-            println!(rt; "  ({x}, {y}) mm lies at ({}, {}) units", p.x, p.y)
-        }
-        Err(fault) => {
-            print!(rt; "  ({x}, {y}) mm is")?;
-            print_refusal(rt, fault)
-        }
-    }
-}
-
-fn take_corners(
-    rt: &HostRuntime,
-    keyed: &[(f64, f64)],
-    corners: &mut Vec<GridPoint>,
-) -> io::Result<()> {
-    for corner in keyed {
-        take_corner(rt, corner.0, corner.1, corners)?;
-    }
-    Ok(())
-}
-
-// The edge from one corner to another, at any scalar.
-fn edge<T: CoordNum>(start: GridPoint, end: GridPoint) -> Line<T> {
-    Line::new(Coord::from_grid(start), Coord::from_grid(end))
-}
-
-fn clamp<T: CoordNum>(corners: &[GridPoint]) -> Option<Rect<T>> {
-    let a = corners.get(0)?;
-    let b = corners.get(1)?;
-    Some(Rect::new(Coord::from_grid(*a), Coord::from_grid(*b)))
+// The clamp between two corners, at any scalar.
+fn clamp<T: CoordNum>(a: GridPoint, b: GridPoint) -> Rect<T> {
+    Rect::new(Coord::from_grid(a), Coord::from_grid(b))
 }
 
 // How many edges of the outline have a point in common with the clamp, by the scalar's own kernel.
-fn edges_met<T: GeoNum>(corners: &[GridPoint], clamp: &Rect<T>) -> usize {
-    let mut met = 0;
-    for ends in corners.windows(2) {
-        if clamp.intersects(&edge::<T>(ends[0], ends[1])) {
-            met += 1;
-        }
-    }
-    met
+fn edges_met<T: GeoNum>(outline: &[GridPoint], clamp: &Rect<T>) -> usize {
+    LineString::new(outline)
+        .lines()
+        .filter(|edge| clamp.intersects(edge))
+        .count()
 }
 
-fn print_edges(rt: &HostRuntime, corners: &[GridPoint], clamp: &Rect<F64Scalar>) -> io::Result<()> {
-    for ends in corners.windows(2) {
-        let line = edge::<F64Scalar>(ends[0], ends[1]);
-        let verdict = if clamp.intersects(&line) {
+fn print_edges(rt: &impl Print, outline: &[GridPoint], clamp: &Rect<F64Scalar>) -> io::Result<()> {
+    for edge in LineString::new(outline).lines() {
+        let verdict = if clamp.intersects(&edge) {
             "meets the clamp"
         } else {
             "is clear of the clamp"
         };
-        let (start, end) = (Millimetres(line.start), Millimetres(line.end));
-        println!(rt; "  {start} to {end} mm {verdict}")?;
+        println!(rt; "  {} to {} mm {verdict}", edge.start, edge.end)?;
     }
     Ok(())
 }
 
-fn print_corners(
-    rt: &HostRuntime,
-    corners: &[GridPoint],
+// Prints the corners of the outline that lie strictly within the clamp.
+fn print_clamped(
+    rt: &impl Print,
+    outline: &[GridPoint],
     clamp: &Rect<F64Scalar>,
 ) -> io::Result<()> {
-    for p in corners {
-        let c = Coord::<F64Scalar>::from_grid(*p);
-        if clamp.contains(&c) {
-            let c = Millimetres(c);
-            println!(rt; "  {c} mm lies strictly within the clamp")?;
+    for p in outline {
+        let corner = Coord::from_grid(*p);
+        if clamp.contains(&corner) {
+            println!(rt; "  {corner} mm lies strictly within the clamp")?;
         }
     }
     Ok(())
 }
 
-fn print_clamp(rt: &HostRuntime, clamp: &Rect<F64Scalar>) -> io::Result<()> {
-    let (min, max) = (Millimetres(clamp.min()), Millimetres(clamp.max()));
-    println!(rt; "The clamp lies from {min} to {max} mm")
-}
-
 fn main(rt: HostRuntime) -> io::Result<()> {
-    let mut outline = Vec::new(rt.alloc());
-    let mut clamped = Vec::new(rt.alloc());
     println!(rt; "The grid, in units of 1/256 mm:")?;
     for x in LENGTHS {
         print_length(&rt, x)?;
     }
     println!(rt; "Outline of the blank, as keyed in:")?;
-    take_corners(&rt, &OUTLINE, &mut outline)?;
+    print_corners(&rt, &OUTLINE)?;
     println!(rt; "Corners of the clamp, as keyed in:")?;
-    take_corners(&rt, &CLAMP, &mut clamped)?;
-    let Some(clamp_mm) = clamp::<F64Scalar>(&clamped) else {
+    print_corners(&rt, &CLAMP)?;
+    let outline = grid_corners(rt.alloc(), &OUTLINE)?;
+    let clamped = grid_corners(rt.alloc(), &CLAMP)?;
+    let &[a, b, ..] = clamped.as_slice() else {
         return println!(rt; "The clamp has no two corners on the grid");
     };
-    let Some(clamp_units) = clamp::<I32Scalar>(&clamped) else {
-        return println!(rt; "The clamp has no two corners on the grid");
-    };
-    print_clamp(&rt, &clamp_mm)?;
+    let in_millimetres = clamp::<F64Scalar>(a, b);
+    println!(rt;
+        "The clamp lies from {} to {} mm",
+        in_millimetres.min(),
+        in_millimetres.max()
+    )?;
     println!(rt; "Edges of the outline:")?;
-    print_edges(&rt, &outline, &clamp_mm)?;
-    print_corners(&rt, &outline, &clamp_mm)?;
+    print_edges(&rt, &outline, &in_millimetres)?;
+    print_clamped(&rt, &outline, &in_millimetres)?;
     println!(rt;
         "Edges that meet the clamp, in f64 millimetres: {}",
-        edges_met(&outline, &clamp_mm)
+        edges_met(&outline, &in_millimetres)
     )?;
     println!(rt;
         "Edges that meet the clamp, in i32 units: {}",
-        edges_met(&outline, &clamp_units)
+        edges_met(&outline, &clamp::<I32Scalar>(a, b))
     )
 }

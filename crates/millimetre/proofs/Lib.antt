@@ -1,2 +1,3 @@
 pub mod Exact
 pub mod Tests
+pub mod Order

@@ -12,3 +12,4 @@ pub mod Segments
 pub mod Rectangles
 pub mod Containment
 pub mod Enums
+pub mod Iterators

@@ -1,39 +1,40 @@
 -- The holes of a polygon as a loop over them reads them.
-use Rattle.std.proofs.Common.{◌≡◌, ℕ, ◌+◌, ◌<◌, ◌≤◌, List, ◌∷◌, length, get_or, drop, Some, None, sym, ap, ◌∙◌}
-use Rattle.std.proofs.lemmas.List.{at_drop_more, at_drop_all}
-use Rattle.plane.specs.declared.grid_point.GridPoint.{GridPoint}
+use Rattle.std.proofs.Common.{true, false, Bool, not, cond, [], refl, Option, MatchOption, ◌≡◌, ℕ, ◌+◌, List, ◌∷◌, Some, None, sym, ap, ◌∙◌}
+use Rattle.std.specs.List.{position, position_from}
+use Rattle.std.specs.Option.{IsSomeAnd, option_map}
+use Rattle.std.proofs.lemmas.Iterator.Adapters.{position_from-zero}
+use Rattle.std.proofs.lemmas.Option.{none-some}
+use Rattle.plane.proofs.Answers.{one_answer}
+use Rattle.plane.specs.Reflects.{Reflects}
 use Rattle.polyline.specs.Strings.{vertices, Closed}
 use Rattle.line_strings.specs.declared.line_string.LineString.{LineString}
-use Rattle.coordinate_position.specs.declared.position.CoordPos.{CoordPos}
-use Rattle.coordinate_position.specs.declared.position.CoordPos.TheVariants.{Inside}
 use Rattle.polygon.specs.declared.fault.RingFault.TheVariants.{Open}
-use Rattle.polygon.specs.Faults.{ring_fault, refusal_from}
-use Rattle.polygon.specs.Polygons.{past_hole, past_holes, rings}
-use Rattle.polygon.specs.Rings.{ring_position}
-use Rattle.polygon.proofs.Refusals.{closed_passes, open_refused}
+use Rattle.polygon.specs.Faults.{closed, ring_fault, refusal_from}
+use Rattle.polygon.specs.Polygons.{rings}
+use Rattle.polygon.proofs.Refusals.{closed_reflects}
 
-module _ {T : Type 0} (hs : List (LineString T)) (i : ℕ) where
-  -- the holes from i on are refused as all are
-  module _ (n : refusal_from (i + 1) (rings (drop i hs)) ≡ refusal_from 1 (rings hs)) where
-    module _ (d : LineString T) (lt : i < length hs) where
-      at_hole : refusal_from 1 (rings hs) ≡ refusal_from (i + 1) (rings (get_or hs i d ∷ drop (i + 1) hs))
-      at_hole = sym n ∙ at_drop_more (λ (gs : List (LineString T)). refusal_from (i + 1) (rings gs)) hs i d lt
+module _ {T : Type 0} where
+  abbrev pub is_open : LineString T → Bool
+  is_open s = not (closed (vertices s.points.now))
 
-      pub open_hole : (Closed (vertices (get_or hs i d).points.now) → ⊥) → refusal_from 1 (rings hs) ≡ Some (ring_fault (Open (i + 1)))
-      open_hole h = at_hole ∙ open_refused (i + 1) (vertices (get_or hs i d).points.now) (rings (drop (i + 1) hs)) h
+  -- what the code tells of a hole
+  pub open_told : (h : LineString T) (b : Bool) → ((r : Bool) × (b ≡ not r) × Reflects r (Closed (vertices h.points.now))) → b ≡ is_open h
+  open_told h b t = t.1 ∙ ap not (one_answer _ t.0 (closed (vertices h.points.now)) t.2 (closed_reflects (vertices h.points.now)))
 
-      pub closed_hole : Closed (vertices (get_or hs i d).points.now) → refusal_from ((i + 1) + 1) (rings (drop (i + 1) hs)) ≡ refusal_from 1 (rings hs)
-      closed_hole h = sym (at_hole ∙ closed_passes (i + 1) (vertices (get_or hs i d).points.now) (rings (drop (i + 1) hs)) h)
+  -- the first open hole is refused with its place
+  place_refused : (i : ℕ) (hs : List (LineString T)) → refusal_from (i + 1) (rings hs) ≡ option_map (λ k. ring_fault (Open (k + 1))) (position_from is_open i hs)
+  place_refused i [] = refl
+  place_refused i (h ∷ hs) = go (closed (vertices h.points.now)) (place_refused (i + 1) hs)
+    where
+      go : (b : Bool) → refusal_from ((i + 1) + 1) (rings hs) ≡ option_map (λ k. ring_fault (Open (k + 1))) (position_from is_open (i + 1) hs) → cond b (refusal_from ((i + 1) + 1) (rings hs)) (Some (ring_fault (Open (i + 1)))) ≡ option_map (λ k. ring_fault (Open (k + 1))) (cond (not b) (Some i) (position_from is_open (i + 1) hs))
+      go true e = e
+      go false e = refl
 
-    pub all_holes_closed : length hs ≤ i → refusal_from 1 (rings hs) ≡ None
-    all_holes_closed h = sym n ∙ at_drop_all (λ (gs : List (LineString T)). refusal_from (i + 1) (rings gs)) hs i h
-
-  -- the holes from i on decide as all do
-  module _ (c : GridPoint) (n : past_holes (rings (drop i hs)) c ≡ past_holes (rings hs) c) where
-    pub hole_decides : (d : LineString T) (p : CoordPos) → i < length hs → p ≡ ring_position (vertices (get_or hs i d).points.now) c → past_hole p (past_holes (rings (drop (i + 1) hs)) c) ≡ past_holes (rings hs) c
-    hole_decides d p lt e =
-        ap (λ (p : CoordPos). past_hole p (past_holes (rings (drop (i + 1) hs)) c)) e
-        ∙ sym (at_drop_more (λ (gs : List (LineString T)). past_holes (rings gs) c) hs i d lt) ∙ n
-
-    pub no_hole_decides : length hs ≤ i → Inside ≡ past_holes (rings hs) c
-    no_hole_decides h = sym (at_drop_all (λ (gs : List (LineString T)). past_holes (rings gs) c) hs i h) ∙ n
+  pub first_refused : (hs : List (LineString T)) (p r : Option ℕ) → p ≡ position is_open hs → MatchOption p (r ≡ None) (λ i. IsSomeAnd r (λ j. j ≡ i + 1)) → MatchOption r (refusal_from 1 (rings hs) ≡ None) (λ k. refusal_from 1 (rings hs) ≡ Some (ring_fault (Open k)))
+  first_refused hs p r e m = go p r (place_refused 0 hs ∙ ap (option_map (λ k. ring_fault (Open (k + 1)))) (sym (e ∙ position_from-zero is_open hs))) m
+    where
+      go : (p r : Option ℕ) → refusal_from 1 (rings hs) ≡ option_map (λ k. ring_fault (Open (k + 1))) p → MatchOption p (r ≡ None) (λ i. IsSomeAnd r (λ j. j ≡ i + 1)) → MatchOption r (refusal_from 1 (rings hs) ≡ None) (λ k. refusal_from 1 (rings hs) ≡ Some (ring_fault (Open k)))
+      go None None e m = e
+      go None (Some k) e m = absurd (none-some k (sym m))
+      go (Some i) None e m = absurd m
+      go (Some i) (Some k) e m = e ∙ ap (λ (k : ℕ). Some (ring_fault (Open k))) (sym m)

@@ -1,6 +1,5 @@
-mod Casts
 mod Holes
 mod Passings
-mod Polygons
-mod Refusals
-mod Rings
+pub mod Polygons
+pub mod Refusals
+pub mod Rings

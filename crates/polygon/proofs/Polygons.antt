@@ -1,28 +1,13 @@
 -- What the position in a polygon says.
-use Rattle.std.proofs.Common.{◌≡◌, Bool, ◌⊎◌, List, [], ◌∷◌, sym, refl, ap, ◌∙◌, inl, inr}
+use Rattle.std.proofs.Common.{◌≡◌, ◌⊎◌, List, [], ◌∷◌, sym, refl, ap, inl, inr}
 use mathlib.Core.Bool.{false≢true}
 use Rattle.std.specs.List.{AllByRecursion}
 use Rattle.plane.specs.declared.grid_point.GridPoint.{GridPoint}
-use Rattle.plane.specs.Reflects.{Reflects, Iff}
-use Rattle.plane.proofs.Answers.{reflects_same, one_answer}
+use Rattle.plane.specs.Reflects.{Iff}
 use Rattle.coordinate_position.specs.declared.position.CoordPos.{CoordPos}
 use Rattle.coordinate_position.specs.declared.position.CoordPos.TheVariants.{OnBoundary, Inside, Outside}
-use Rattle.coordinate_position.specs.declared.position.Membership.{Membership}
-use Rattle.coordinate_position.specs.Shapes.{membership}
-use Rattle.polygon.specs.Polygons.{past_hole, past_holes, within_exterior, polygon_position, is_inside, is_boundary, polygon_shape, OnFirstHole}
+use Rattle.polygon.specs.Polygons.{past_hole, past_holes, within_exterior, polygon_position, is_inside, is_boundary, OnFirstHole}
 use Rattle.polygon.specs.Rings.{ring_position}
-
--- ---- tests of a position
-
-inside_reflects : (p : CoordPos) → Reflects (is_inside p) (p ≡ Inside)
-inside_reflects OnBoundary = λ e. false≢true (ap is_inside e)
-inside_reflects Inside = refl
-inside_reflects Outside = λ e. false≢true (ap is_inside e)
-
-boundary_reflects : (p : CoordPos) → Reflects (is_boundary p) (p ≡ OnBoundary)
-boundary_reflects OnBoundary = refl
-boundary_reflects Inside = λ e. false≢true (ap is_boundary e)
-boundary_reflects Outside = λ e. false≢true (ap is_boundary e)
 
 boundary_not_inside : {P : Type 0} → OnBoundary ≡ Inside → P
 boundary_not_inside e = absurd (false≢true (ap is_inside e))
@@ -65,7 +50,7 @@ module _ (e : List GridPoint) (hs : List (List GridPoint)) (c : GridPoint) where
   abbrev pub OnRing : Type 0
   OnRing = (ring_position e c ≡ OnBoundary) ⊎ ((ring_position e c ≡ Inside) × OnFirstHole hs c)
 
-  position_inside : Iff (polygon_position e hs c ≡ Inside) InsideAll
+  pub position_inside : Iff (polygon_position e hs c ≡ Inside) InsideAll
   position_inside = go (ring_position e c) (past_inside c hs)
     where
       go : {A : Type 0} (p : CoordPos) → Iff (past_holes hs c ≡ Inside) A → Iff (within_exterior p (past_holes hs c) ≡ Inside) ((p ≡ Inside) × A)
@@ -73,25 +58,10 @@ module _ (e : List GridPoint) (hs : List (List GridPoint)) (c : GridPoint) where
       go Inside i = ((λ f. (refl, i.0 f)), (λ a. i.1 a.1))
       go Outside i = (outside_not_inside, (λ a. outside_not_inside a.0))
 
-  position_boundary : Iff (polygon_position e hs c ≡ OnBoundary) OnRing
+  pub position_boundary : Iff (polygon_position e hs c ≡ OnBoundary) OnRing
   position_boundary = go (ring_position e c) (past_boundary c hs)
     where
       go : {A : Type 0} (p : CoordPos) → Iff (past_holes hs c ≡ OnBoundary) A → Iff (within_exterior p (past_holes hs c) ≡ OnBoundary) ((p ≡ OnBoundary) ⊎ ((p ≡ Inside) × A))
       go OnBoundary i = ((λ f. inl refl), (λ a. refl))
       go Inside i = ((λ f. inr (refl, i.0 f)), (λ a. elim a [ inl f ↦ boundary_not_inside (sym f) | inr b ↦ i.1 b.1 ]))
       go Outside i = (outside_not_boundary, (λ a. elim a [ inl f ↦ outside_not_boundary f | inr b ↦ outside_not_inside b.0 ]))
-
-  -- what tests of the position tell
-  module _ (p : CoordPos) (f : p ≡ polygon_position e hs c) where
-    pub inside_meant : (t : Bool) → Reflects t (p ≡ Inside) → Reflects t InsideAll
-    inside_meant t h = reflects_same t (λ k. position_inside.0 (sym f ∙ k)) (λ k. f ∙ position_inside.1 k) h
-
-    pub boundary_meant : (t : Bool) → Reflects t (p ≡ OnBoundary) → Reflects t OnRing
-    boundary_meant t h = reflects_same t (λ k. position_boundary.0 (sym f ∙ k)) (λ k. f ∙ position_boundary.1 k) h
-
-    pub polygon_membership : (m : Membership) → Reflects m.inside (p ≡ Inside) → Reflects m.odd (p ≡ OnBoundary) → m ≡ membership (polygon_shape e hs) c
-    polygon_membership m h k =
-        λ i. record {
-          inside = (one_answer (p ≡ Inside) m.inside (is_inside p) h (inside_reflects p) ∙ ap is_inside f) i;
-          odd = (one_answer (p ≡ OnBoundary) m.odd (is_boundary p) k (boundary_reflects p) ∙ ap is_boundary f) i;
-        }

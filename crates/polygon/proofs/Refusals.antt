@@ -7,9 +7,9 @@ use Rattle.plane.proofs.Answers.{one_answer}
 use Rattle.polyline.specs.Strings.{last, Closed}
 use Rattle.polyline.proofs.Tests.{same_reflects}
 use Rattle.polygon.specs.declared.fault.RingFault.TheVariants.{Open}
-use Rattle.polygon.specs.Faults.{ring_fault, closed, refusal_from, ring_refusal}
+use Rattle.polygon.specs.Faults.{ring_fault, closed, refusal_from}
 
-closed_reflects : (vs : List GridPoint) → Reflects (closed vs) (Closed vs)
+pub closed_reflects : (vs : List GridPoint) → Reflects (closed vs) (Closed vs)
 closed_reflects [] = tt
 closed_reflects (v ∷ vs) = same_reflects v (last v vs)
 
@@ -37,6 +37,3 @@ none_refused i (r ∷ rs) = let j = none_refused (i + 1) rs in
     tell : (refusal_from (i + 1) rs ≡ None → AllByRecursion Closed rs) → (b : Bool) → Reflects b (Closed r) → cond (closed r) (refusal_from (i + 1) rs) (Some (ring_fault (Open i))) ≡ None → Closed r × AllByRecursion Closed rs
     tell f true c e = (c, f (sym (closed_passes i r rs c) ∙ e))
     tell f false n e = absurd (never (sym (open_refused i r rs n) ∙ e))
-
-pub lone_refused : (vs : List GridPoint) → Iff (ring_refusal vs ≡ None) (Closed vs)
-lone_refused vs = let j = none_refused 0 (vs ∷ []) in ((λ e. (j.0 e).0), (λ c. j.1 (c, tt)))

@@ -1,8 +1,8 @@
 -- Where a grid point lies relative to a polygon, by the vertices of its exterior and of its holes.
 use Rattle.std.specs.Prelude.{◌≡◌, Bool, true, false, ◌⊎◌, List, [], ◌∷◌, map}
 use Rattle.plane.specs.declared.grid_point.GridPoint.{GridPoint}
-use Rattle.polyline.specs.Strings.{vertices}
 use Rattle.line_strings.specs.declared.line_string.LineString.{LineString}
+use Rattle.line_strings.specs.Views.{vertices_of}
 use Rattle.coordinate_position.specs.declared.position.CoordPos.{CoordPos}
 use Rattle.coordinate_position.specs.declared.position.CoordPos.TheVariants.{OnBoundary, Inside, Outside}
 use Rattle.coordinate_position.specs.Shapes.{Shape}
@@ -10,7 +10,7 @@ use Rattle.polygon.specs.Rings.{ring_position}
 
 -- the vertices of each ring
 abbrev pub rings : {T : Type 0} → List (LineString T) → List (List GridPoint)
-rings ss = map (λ s. vertices s.points.now) ss
+rings ss = map vertices_of ss
 
 -- past one hole: the first that is not outside decides, and its inside is outside
 abbrev pub past_hole : CoordPos → CoordPos → CoordPos

@@ -1,17 +1,18 @@
 // How an edge of a ring passes a coordinate.
 ghost use Rattle.std.specs.Prelude.{◌≡◌, ◌≤ℤ◌, ◌<ℤ◌};
-ghost use Rattle.plane.specs.Reach.{read_point};
+ghost use Rattle.plane.specs.Points.{Between};
+ghost use Rattle.plane.specs.Reach.{read, read_point};
 ghost use Rattle.plane.specs.Reflects.{Reflects};
 ghost use Rattle.scalar.specs.Coords.{grid_point};
 ghost use Rattle.polygon.specs.Passings.{Passes};
 
 use kernel::geo_num::GeoNum;
 use kernel::kernels::Kernel;
-use line_strings::ranges::is_between;
 use plane::grid_point::GridPoint;
 use plane::orientation::Orientation;
 use scalar::coord::Coord;
 use scalar::coord_num::{CoordNum, read_units};
+use scalar::units::value_in_between;
 
 // An edge touches the coordinate, goes up or down past it on its right, or does neither.
 #[derive(Clone, Copy)]
@@ -22,55 +23,63 @@ pub(crate) enum Passing {
     Clear,
 }
 
-// Whether the number lies between the two, the lower included and the upper excluded.
-fn is_half_between(value: i32, low: i32, high: i32) -> bool
-    ensures { Reflects result ((low ≤ℤ value) × (value <ℤ high)) }
-{
-    low <= value && value < high
+// A coordinate that edges are to pass, and the grid point where it lies.
+#[derive(Drop)]
+pub(crate) struct Probe<T: GeoNum> {
+    coord: Coord<T>,
+    at: GridPoint,
+    ghost same: { at ≡ grid_point T.units coord },
 }
 
-// How the edge between two vertices passes the coordinate, which is `at` on the grid. The kernel is asked only if the
-// edge reaches the coordinate's y.
-pub(crate) fn pass_edge<T: GeoNum>(
-    start: GridPoint,
-    end: GridPoint,
-    coord: &Coord<T>,
-    at: GridPoint,
-) -> Passing
-    requires { at ≡ grid_point T.CoordNum.units coord.now }
-    ensures { Passes result (record { p = read_point start; q = read_point end }) at }
-{
-    let start_y = read_units(start.y);
-    let end_y = read_units(end.y);
-    if !is_between(at.y, start_y, end_y) {
-        return Passing::Clear;
+impl<T: GeoNum> Probe<T> {
+    pub(crate) fn new(coord: &Coord<T>) -> Probe<T>
+        ensures { result.at ≡ grid_point T.units coord.now }
+    {
+        Probe {
+            coord: *coord,
+            at: GridPoint::from(*coord),
+        }
     }
-    // Edge Crossing Rules:
-    //   1. an upward edge includes its starting endpoint, and excludes its final endpoint;
-    //   2. a downward edge excludes its starting endpoint, and includes its final endpoint;
-    //   3. horizontal edges are excluded
-    //   4. the edge-ray intersection point must be strictly right of the coord.
-    match T::Ker::orient2d(Coord::from_grid(start), Coord::from_grid(end), *coord) {
-        Orientation::CounterClockwise => {
-            if is_half_between(at.y, start_y, end_y) {
-                Passing::Upward
-            } else {
-                Passing::Clear
-            }
+
+    // How the edge between two vertices passes the coordinate. The kernel is asked only if the edge reaches the
+    // coordinate's y.
+    pub(crate) fn pass_edge(&self, start: GridPoint, end: GridPoint) -> Passing
+        ensures { Passes result (record { p = read_point start; q = read_point end }) self.now.at }
+    {
+        if !self.is_reached(start, end) {
+            return Passing::Clear;
         }
-        Orientation::Clockwise => {
-            if is_half_between(at.y, end_y, start_y) {
-                Passing::Downward
-            } else {
-                Passing::Clear
-            }
+        // Edge Crossing Rules:
+        //   1. an upward edge includes its starting endpoint, and excludes its final endpoint;
+        //   2. a downward edge excludes its starting endpoint, and includes its final endpoint;
+        //   3. horizontal edges are excluded
+        //   4. the edge-ray intersection point must be strictly right of the coord.
+        match T::Ker::orient2d(Coord::from_grid(start), Coord::from_grid(end), self.coord) {
+            Orientation::CounterClockwise if self.is_half_between(start, end) => Passing::Upward,
+            Orientation::Clockwise if self.is_half_between(end, start) => Passing::Downward,
+            Orientation::Collinear if self.is_beside(start, end) => Passing::Touched,
+            _ => Passing::Clear,
         }
-        Orientation::Collinear => {
-            if is_between(at.x, read_units(start.x), read_units(end.x)) {
-                Passing::Touched
-            } else {
-                Passing::Clear
-            }
-        }
+    }
+
+    // Whether the coordinate's y lies between those of the vertices.
+    fn is_reached(&self, start: GridPoint, end: GridPoint) -> bool
+        ensures { Reflects result (Between self.now.at.y (read start.y) (read end.y)) }
+    {
+        value_in_between(self.at.y, read_units(start.y), read_units(end.y))
+    }
+
+    // The same with the lower included and the upper excluded.
+    fn is_half_between(&self, low: GridPoint, high: GridPoint) -> bool
+        ensures { Reflects result ((read low.y ≤ℤ self.now.at.y) × (self.now.at.y <ℤ read high.y)) }
+    {
+        read_units(low.y) <= self.at.y && self.at.y < read_units(high.y)
+    }
+
+    // Whether the coordinate's x lies between those of the vertices.
+    fn is_beside(&self, start: GridPoint, end: GridPoint) -> bool
+        ensures { Reflects result (Between self.now.at.x (read start.x) (read end.x)) }
+    {
+        value_in_between(self.at.x, read_units(start.x), read_units(end.x))
     }
 }

@@ -1,9 +1,9 @@
 pub mod Pigeonhole
 pub mod Gap
 pub mod Tests
-pub mod Reading
 pub mod Trimming
 pub mod Strings
 pub mod Chains
 pub mod StringContainment
 pub mod StringRules
+pub mod Neighbours

@@ -1,8 +1,7 @@
 -- The rules of containment as they are decided: by the ends, by the first vertex, by the longer segments.
-use Rattle.std.proofs.Common.{◌≡◌, ℕ, List, [], ◌∷◌, length, ℤ, sym, ap, subst, inl, inr, arith}
+use Rattle.std.proofs.Common.{◌≡◌, ℕ, ◌≤◌, List, [], ◌∷◌, length, get_or, ℤ, sym, subst, inl, inr, arith}
 use Rattle.std.specs.List.{AllByRecursion}
 use Rattle.std.proofs.ByRecursion.{All-weaker}
-use Rattle.std.proofs.lemmas.List.{nil_from_length}
 use Rattle.plane.specs.declared.grid_point.GridPoint.{GridPoint}
 use Rattle.plane.specs.Points.{Segment, Touches, LongerThanZero}
 use Rattle.plane.specs.Reach.{read_point}
@@ -10,9 +9,9 @@ use Rattle.plane.specs.Reflects.{Iff}
 use Rattle.plane.specs.Sets.{Interior}
 use Rattle.plane.proofs.Containment.{at_is}
 use Rattle.polyline.specs.Segments.{OnAny, Covered}
-use Rattle.polyline.specs.Strings.{vertices, chain, segments, last, Closed, AllEqual, OnString, AtEnd, StringInterior, SegmentContainsString, StringContainsString}
+use Rattle.polyline.specs.Strings.{vertices, segments, last, Closed, AllEqual, OnString, AtEnd, StringInterior, SegmentContainsString, StringContainsString}
 use Rattle.polyline.proofs.Strings.{vertices_on, none_longer}
-use Rattle.polyline.proofs.Chains.{all_vertices}
+use Rattle.polyline.proofs.Chains.{origin, all_vertices}
 
 -- ---- a line string over a grid point
 
@@ -47,54 +46,38 @@ inner_contained vs X Y d n = ((λ o. record { on = up vs o; no_end = λ e. absur
     down (v ∷ []) n o = absurd (n (inl o))
     down (v ∷ (w ∷ ws)) n o = o
 
--- ---- a segment or a line string over a line string, whose points are read from p on through qs
+-- ---- a segment or a line string over a line string, by its points
 
-module _ (ps : List GridPoint) where
-  pub none_in_segment : (s : Segment) → length ps ≡ 0 → SegmentContainsString s (vertices ps) → ⊥
-  none_in_segment s e h = h.some (ap vertices (nil_from_length ps e))
+some : (ps : List GridPoint) → 1 ≤ length ps → vertices ps ≡ [] → ⊥
+some [] l e = absurd (omega arith)
+some (p ∷ ps) l e = cc
 
-  pub none_in_string : (vs : List GridPoint) → length ps ≡ 0 → StringContainsString vs (vertices ps) → ⊥
-  none_in_string vs e h = h.some (ap vertices (nil_from_length ps e))
+-- of equal vertices, what holds of the first holds of all
+first_tells : (P : GridPoint → Type 0) (ps : List GridPoint) → 1 ≤ length ps → AllEqual (vertices ps) → Iff (P (read_point (get_or ps 0 origin))) (AllByRecursion P (vertices ps))
+first_tells P [] l a = absurd (omega arith)
+first_tells P (p ∷ ps) l a = ((λ h. (h, All-weaker (λ v. read_point p ≡ v) P (λ v e. subst P e h) (vertices ps) a)), (λ h. h.0))
 
-module _ (ps : List GridPoint) (p : GridPoint) (qs : List GridPoint) (e : ps ≡ p ∷ qs) where
-  some : vertices ps ≡ [] → ⊥
-  some f = never (subst (λ (rs : List GridPoint). vertices rs ≡ []) e f)
-    where
-      never : {v : GridPoint} {vs : List GridPoint} → v ∷ vs ≡ [] → ⊥
-      never f = let z : ◌≡◌ {A = ℕ} 1 0 = ap (λ (us : List GridPoint). few us) f in omega arith
-        where
-          few : List GridPoint → ℕ
-          few [] = 0
-          few (v ∷ vs) = 1
+-- and no segment is longer than zero
+equal_longer : (P : Segment → Type 0) (ps : List GridPoint) → AllEqual (vertices ps) → AllByRecursion (λ t. LongerThanZero t → P t) (segments (vertices ps))
+equal_longer P [] a = tt
+equal_longer P (p ∷ ps) a = none_longer P (read_point p) (vertices ps) a
 
-  -- of equal vertices, what holds of the first holds of all
-  first_tells : (P : GridPoint → Type 0) → AllEqual (vertices ps) → Iff (P (read_point p)) (AllByRecursion P (vertices ps))
-  first_tells P a =
-      let b : AllByRecursion (λ w. read_point p ≡ w) (vertices qs) = subst (λ (rs : List GridPoint). AllEqual (vertices rs)) e a in (
-        (λ h. subst (λ (rs : List GridPoint). AllByRecursion P (vertices rs)) (sym e) (h, All-weaker (λ w. read_point p ≡ w) P (λ w f. subst P f h) (vertices qs) b)),
-        (λ h. (subst (λ (rs : List GridPoint). AllByRecursion P (vertices rs)) e h).0),
-      )
+module _ (ps : List GridPoint) (l : 1 ≤ length ps) where
+  -- all are equal: the first decides; else all have to touch
+  pub equal_in_segment : (s : Segment) → AllEqual (vertices ps) → Iff (Interior s (read_point (get_or ps 0 origin)).x (read_point (get_or ps 0 origin)).y 1) (SegmentContainsString s (vertices ps))
+  equal_in_segment s a =
+      let t = first_tells (Touches s) ps l a in
+      let i = first_tells (λ v. Interior s v.x v.y 1) ps l a in
+      ((λ h. record { some = some ps l; touch = t.0 h.on; equal = λ _. i.0 h }), (λ h. i.1 (h.equal a)))
 
-  -- all touch and are equal: the first decides
-  pub equal_in_segment : (s : Segment) → AllByRecursion (λ q. Touches s (read_point q)) ps → AllEqual (vertices ps) → Iff (Interior s (read_point p).x (read_point p).y 1) (SegmentContainsString s (vertices ps))
-  equal_in_segment s t a =
-      let i = first_tells (λ v. Interior s v.x v.y 1) a in
-      ((λ h. record { some = some; touch = (all_vertices (Touches s) ps).0 t; equal = λ _. i.0 h }), (λ h. i.1 (h.equal a)))
+  pub unequal_in_segment : (s : Segment) → (AllEqual (vertices ps) → ⊥) → Iff (AllByRecursion (λ p. Touches s (read_point p)) ps) (SegmentContainsString s (vertices ps))
+  unequal_in_segment s n = let i = all_vertices (Touches s) ps in ((λ t. record { some = some ps l; touch = i.0 t; equal = λ a. absurd (n a) }), (λ h. i.1 h.touch))
 
-  pub unequal_in_segment : (s : Segment) → AllByRecursion (λ q. Touches s (read_point q)) ps → (AllEqual (vertices ps) → ⊥) → SegmentContainsString s (vertices ps)
-  unequal_in_segment s t n = record { some = some; touch = (all_vertices (Touches s) ps).0 t; equal = λ a. absurd (n a) }
-
-  -- all are equal: the first decides
-  pub equal_in_string : (vs : List GridPoint) → AllEqual (vertices ps) → Iff (StringInterior vs (read_point p).x (read_point p).y 1) (StringContainsString vs (vertices ps))
+  -- all are equal: the first decides; else the longer segments do
+  pub equal_in_string : (vs : List GridPoint) → AllEqual (vertices ps) → Iff (StringInterior vs (read_point (get_or ps 0 origin)).x (read_point (get_or ps 0 origin)).y 1) (StringContainsString vs (vertices ps))
   equal_in_string vs a =
-      let i = first_tells (λ v. StringInterior vs v.x v.y 1) a in
-      let b = subst (λ (rs : List GridPoint). AllEqual (vertices rs)) e a in
-      let n : AllByRecursion (λ t. LongerThanZero t → Covered (segments vs) t) (segments (vertices ps)) =
-      subst (λ (rs : List GridPoint). AllByRecursion (λ t. LongerThanZero t → Covered (segments vs) t) (segments (vertices rs))) (sym e) (none_longer (Covered (segments vs)) (read_point p) (vertices qs) b) in
-      ((λ h. record { some = some; longer = n; equal = λ _. i.0 h }), (λ h. i.1 (h.equal a)))
+      let i = first_tells (λ v. StringInterior vs v.x v.y 1) ps l a in
+      ((λ h. record { some = some ps l; longer = equal_longer (Covered (segments vs)) ps a; equal = λ _. i.0 h }), (λ h. i.1 (h.equal a)))
 
-  -- not all are equal: the longer segments decide
-  pub unequal_in_string : (vs : List GridPoint) → (AllEqual (vertices ps) → ⊥) → Iff (AllByRecursion (λ t. LongerThanZero t → Covered (segments vs) t) (chain (read_point p) (vertices qs))) (StringContainsString vs (vertices ps))
-  unequal_in_string vs n =
-      let P : List GridPoint → Type 0 = λ rs. AllByRecursion (λ t. LongerThanZero t → Covered (segments vs) t) (segments (vertices rs)) in
-      ((λ h. record { some = some; longer = subst P (sym e) h; equal = λ a. absurd (n a) }), (λ h. subst P e h.longer))
+  pub unequal_in_string : (vs : List GridPoint) → (AllEqual (vertices ps) → ⊥) → Iff (AllByRecursion (λ t. LongerThanZero t → Covered (segments vs) t) (segments (vertices ps))) (StringContainsString vs (vertices ps))
+  unequal_in_string vs n = ((λ h. record { some = some ps l; longer = h; equal = λ a. absurd (n a) }), (λ h. h.longer))

@@ -1,6 +1,8 @@
 -- Trimming tells whether a list of segments covers a segment: a round keeps what is still to be covered, and where it
 -- changes nothing, the stretch that is left has a gap. It is stated over lists of segments, wherever they are read from.
-use Rattle.std.proofs.Common.{◌≡◌, ℕ, zero, suc, ◌<◌, ◌≤◌, Bool, true, false, cond, ◌⊎◌, List, [], ◌∷◌, map, ℤ, pos, negsuc, ◌-ℤ◌, ◌*ℤ◌, nat_abs, ◌≤ℤ◌, ◌<ℤ◌, sym, refl, ap, ◌∙◌, subst, inl, inr, arith}
+use Rattle.std.proofs.Common.{◌≡◌, ℕ, zero, suc, ◌<◌, ◌≤◌, Bool, true, false, cond, ◌&&◌, ◌⊎◌, List, [], ◌∷◌, map, ℤ, pos, negsuc, ◌-ℤ◌, ◌*ℤ◌, nat_abs, ◌≤ℤ◌, ◌<ℤ◌, sym, refl, ap, ◌∙◌, subst, inl, inr, arith}
+use Rattle.std.specs.Ordering.{int_eq}
+use Rattle.std.proofs.lemmas.Bool.Decides.{Decides-int_eq}
 use lib.Signed.{le_z}
 use Rattle.std.specs.List.{AllByRecursion}
 use Rattle.std.proofs.ByRecursion.{All-weaker, All-map}
@@ -15,10 +17,10 @@ use Rattle.plane.proofs.Slopes.{on_along}
 use Rattle.plane.proofs.Crossing.{on_reversed, on_transposed}
 use Rattle.plane.proofs.Collinear.{along_reversed, along_transposed, same_point}
 use Rattle.plane.proofs.Orientations.{det_side}
-use Rattle.plane.proofs.Answers.{reflects_same, and_reflects}
+use Rattle.plane.proofs.Answers.{reflects_same, decides_reflects, and_reflects}
 use Rattle.polyline.specs.Tests.{collinear}
 use Rattle.polyline.specs.Segments.{OnAny, Covered}
-use Rattle.polyline.specs.Trimming.{is_vertical, ordered, span, apart, trimmed, along, trim_by, round, rounds, trims_all}
+use Rattle.polyline.specs.Trimming.{is_vertical, ordered, span, trimmed, along, trim_by, round, rounds, trims_all}
 use Rattle.polyline.proofs.Tests.{le_tells, lt_tells, zero_reflects, same_number_reflects}
 use Rattle.polyline.proofs.Gap.{Clear, open_gap}
 use Rattle.polyline.proofs.Strings.{each_covered}
@@ -171,14 +173,6 @@ trim_cases s t l h = go (along s t) (along_reflects s t)
     go true g = inl (g, trim_case l (span (is_vertical s) t) h)
     go false n = inr (n, refl)
 
--- a segment whose span has at most an end in common with the stretch leaves it, wherever it lies
-pub apart_stays : (s : Segment) (l : ℤ × ℤ) (t : Segment) (c : ℤ × ℤ) → c ≡ span (is_vertical s) t → apart l c ≡ true → trim_by s l t ≡ l
-apart_stays s l t c e a = go (along s t)
-  where
-    go : (b : Bool) → cond b (trimmed l (span (is_vertical s) t)) l ≡ l
-    go true = ap (λ (z : ℤ × ℤ). trimmed l z) (sym e) ∙ ap (λ (b : Bool). cond b l (cond (le_z c.0 l.0) (cond (le_z l.1 c.1) (l.1, l.1) (c.1, l.1)) (cond (le_z l.1 c.1) (l.0, c.0) l))) a
-    go false = refl
-
 pair_same : (l r : ℤ × ℤ) → l.0 ≡ r.0 → l.1 ≡ r.1 → l ≡ r
 pair_same l r e f = λ i. (e i, f i)
 
@@ -294,6 +288,14 @@ trimming_start ts s n =
     }
 
 -- ---- the loop, as its turns see it
+
+-- what a `==` of two stretches tells
+pub pair_tells : (t : Bool) (l r : ℤ × ℤ) → t ≡ (int_eq l.0 r.0 && int_eq l.1 r.1) → Reflects t (l ≡ r)
+pair_tells t l r e =
+    subst (λ (b : Bool). Reflects b (l ≡ r)) (sym e)
+    (reflects_same (int_eq l.0 r.0 && int_eq l.1 r.1) (λ h. pair_same l r h.0 h.1) (λ f. (ap (λ (z : ℤ × ℤ). z.0) f, ap (λ (z : ℤ × ℤ). z.1) f))
+    (and_reflects (l.0 ≡ r.0) (l.1 ≡ r.1) (int_eq l.0 r.0) (int_eq l.1 r.1) (decides_reflects _ _ (Decides-int_eq l.0 r.0)) (decides_reflects _ _ (Decides-int_eq l.1 r.1))))
+
 pub trimming_begins : (ts : List Segment) (s : Segment) (l : ℤ × ℤ) → LongerThanZero s → l ≡ span (is_vertical s) s → Trimming ts s l × (l.0 <ℤ l.1)
 trimming_begins ts s l n e = subst (λ (z : ℤ × ℤ). Trimming ts s z × (z.0 <ℤ z.1)) (sym e) (trimming_start ts s n, span_extends (is_vertical s) s (extends s n))
 
@@ -307,13 +309,17 @@ pub trimming_stuck : (ts : List Segment) (s : Segment) (l r : ℤ × ℤ) → Lo
 trimming_stuck ts s l r n k h e a b =
     let w = next_narrowed ts s l r k.right e in trimming_gap ts s l (extends s n) k h (sym e ∙ pair_same r l (omega (arith, lin)) (omega (arith, lin)))
 
+-- a round that changes nothing
+pub trimming_unchanged : (ts : List Segment) (s : Segment) (l r : ℤ × ℤ) → LongerThanZero s → Trimming ts s l → l.0 <ℤ l.1 → r ≡ round s l ts → r ≡ l → Covered ts s → ⊥
+trimming_unchanged ts s l r n k h e f =
+    let low : r.0 ≡ l.0 = ap (λ (z : ℤ × ℤ). z.0) f in
+    let high : r.1 ≡ l.1 = ap (λ (z : ℤ × ℤ). z.1) f in
+    trimming_stuck ts s l r n k h e (omega (arith, lin, low)) (omega (arith, lin, high))
+
 abs_falls : (a b : ℤ) → pos 0 ≤ℤ a → a <ℤ b → nat_abs a < nat_abs b
 abs_falls (pos a) (pos b) h k = omega (arith, ints)
 abs_falls (pos a) (negsuc b) h k = absurd (omega (arith, ints))
 abs_falls (negsuc a) b h k = absurd (omega (arith, ints))
-
-pub trimming_falls : (ts : List Segment) (s : Segment) (l r : ℤ × ℤ) → l.0 ≤ℤ l.1 → r ≡ round s l ts → r.0 <ℤ r.1 → (l.0 <ℤ r.0) ⊎ (r.1 <ℤ l.1) → nat_abs (r.1 -ℤ r.0) < nat_abs (l.1 -ℤ l.0)
-trimming_falls ts s l r h e k d = let w = next_narrowed ts s l r h e in abs_falls (r.1 -ℤ r.0) (l.1 -ℤ l.0) (omega (arith, lin)) (omega (arith, lin))
 
 -- a round changes nothing, or the stretch gets shorter
 pub round_same : (ts : List Segment) (s : Segment) (l : ℤ × ℤ) → Trimming ts s l → l.0 <ℤ l.1 → (round s l ts ≡ l) ⊎ (nat_abs ((round s l ts).1 -ℤ (round s l ts).0) < nat_abs (l.1 -ℤ l.0))
@@ -325,6 +331,13 @@ round_same ts s l k h =
   where
     narrower : (l r : ℤ × ℤ) → l.0 <ℤ l.1 → Narrowed l r → (l.0 <ℤ r.0) ⊎ (r.1 <ℤ l.1) → nat_abs (r.1 -ℤ r.0) < nat_abs (l.1 -ℤ l.0)
     narrower l r h w d = abs_falls (r.1 -ℤ r.0) (l.1 -ℤ l.0) (omega (arith, lin)) (omega (arith, lin))
+
+pub trimming_falls : (ts : List Segment) (s : Segment) (l r : ℤ × ℤ) → Trimming ts s l → l.0 <ℤ l.1 → r ≡ round s l ts → (r ≡ l → ⊥) → nat_abs (r.1 -ℤ r.0) < nat_abs (l.1 -ℤ l.0)
+trimming_falls ts s l r k h e n =
+    elim (round_same ts s l k h) [
+      | inl f ↦ absurd (n (e ∙ f))
+      | inr f ↦ subst (λ (z : ℤ × ℤ). nat_abs (z.1 -ℤ z.0) < nat_abs (l.1 -ℤ l.0)) (sym e) f
+    ]
 
 -- ---- as many rounds as a segment is long decide
 

@@ -1,5 +1,5 @@
 -- Coordinates are equal exactly if their grid points are.
-use Rattle.std.proofs.Common.{◌≡◌, Bool, ℤ, ap}
+use Rattle.std.proofs.Common.{◌≡◌, Bool, ℤ, sym, ap, ◌∙◌}
 use Rattle.std.specs.Ordering.{int_eq}
 use Rattle.std.proofs.lemmas.Bool.Decides.{Decides-int_eq}
 use Rattle.plane.specs.declared.grid_point.GridPoint.{GridPoint}
@@ -14,6 +14,10 @@ module _ {T : Type 0} (units : T → ℤ) (equal : (x y : T) → units x ≡ uni
 
   pub same_grid : (r : Bool) (a b : Coord T) → Reflects r (a ≡ b) → Reflects r (grid_point units a ≡ grid_point units b)
   same_grid r a b h = reflects_same r (ap (grid_point units)) (same_coord a b) h
+
+  -- the same of the grid points that the coordinates were made from
+  pub same_made : (r : Bool) (a b : Coord T) (p q : GridPoint) → grid_point units a ≡ p → grid_point units b ≡ q → Reflects r (a ≡ b) → Reflects r (p ≡ q)
+  same_made r a b p q e f h = reflects_same r (λ k. sym e ∙ k ∙ f) (λ k. e ∙ k ∙ sym f) (same_grid r a b h)
 
   -- what `==` and `!=` go by
   pub coord_reflects : (a b : Coord T) → Reflects (equal_coords units a b) (a ≡ b)

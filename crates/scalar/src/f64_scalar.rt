@@ -1,23 +1,27 @@
 // The f64 scalar, in millimetres.
-ghost use Rattle.std.specs.Prelude.{◌≡◌, not, T, ℤ, None};
+ghost use Rattle.std.specs.Prelude.{◌≡◌, not, T, ℤ, Some, None};
 ghost use Rattle.std.proofs.Common.{sym, subst};
 ghost use Rattle.std.proofs.Math.Dec.{T_prop};
 ghost use Rattle.std.specs.Float.Ieee.{fits};
 ghost use Rattle.std.specs.Float.{binary64};
 ghost use Rattle.millimetre.specs.Millimetres.{beyond, whole, on_grid, units_of};
 ghost use Rattle.scalar.specs.Faults.{f64_fault, f64_refusal};
+ghost use Rattle.millimetre.proofs.Order.{ordered_as_units};
 ghost use Rattle.millimetre.proofs.Exact.{on_grid_means, Means, means_one};
 ghost use mathlib.Core.HLevel.{is_prop→PathP};
 
 use crate::coord_num::{CoordNum, read_units};
 use crate::fault::F64Fault;
+use crate::units::Units;
+use std::cmp::OrderedFloat;
+use std::fmt;
 
-#[derive(Clone, Copy, Debug)]
+#[derive(Clone, Copy, PartialEq, Eq, PartialOrd, Ord, Debug)]
 pub struct F64Scalar {
-    value: f64,
+    value: OrderedFloat<f64>,
     // holds of every float that the machine has
-    ghost binary64: { T (fits binary64 value) },
-    ghost grid: { T (on_grid value) },
+    ghost binary64: { T (fits binary64 value.0) },
+    ghost grid: { T (on_grid value.0) },
 }
 
 // Whether 256 times x lies beyond the reach.
@@ -36,12 +40,16 @@ fn is_whole_units(x: f64) -> bool
     scaled == scaled.trunc()
 }
 
+impl Units for F64Scalar {
+    ghost units = { λ s. units_of s.value.0 };
+
+    ghost ordered = { λ x y i. Some (ordered_as_units x.value.0 y.value.0 x.grid y.grid i) };
+}
+
 impl CoordNum for F64Scalar {
     type Raw = f64;
 
     type Fault = F64Fault;
-
-    ghost units = { λ s. units_of s.value };
 
     ghost measure = { units_of };
 
@@ -49,14 +57,14 @@ impl CoordNum for F64Scalar {
 
     ghost fault = { f64_fault };
 
-    ghost within_reach = { λ x. (on_grid_means x.value x.grid).1 };
+    ghost within_reach = { λ x. (on_grid_means x.value.0 x.grid).1 };
 
     ghost equal_units = { λ x y e.
-        let v : x.value ≡ y.value =
-        means_one x.value y.value (units_of x.value) x.binary64 y.binary64 (on_grid_means x.value x.grid).0
-        (subst (λ (u : ℤ). Means y.value u) (sym e) (on_grid_means y.value y.grid).0) in
+        let v : x.value.0 ≡ y.value.0 =
+        means_one x.value.0 y.value.0 (units_of x.value.0) x.binary64 y.binary64 (on_grid_means x.value.0 x.grid).0
+        (subst (λ (u : ℤ). Means y.value.0 u) (sym e) (on_grid_means y.value.0 y.grid).0) in
         λ i. record {
-          value = v i;
+          value = record { 0 = v i };
           binary64 = is_prop→PathP (λ j. T (fits binary64 (v j))) (λ j. T_prop (fits binary64 (v j))) x.binary64 y.binary64 i;
           grid = is_prop→PathP (λ j. T (on_grid (v j))) (λ j. T_prop (on_grid (v j))) x.grid y.grid i;
         } };
@@ -73,27 +81,38 @@ impl CoordNum for F64Scalar {
         }
         // -0.0 becomes 0.0
         if raw == 0.0 {
-            Ok(F64Scalar { value: 0.0 })
+            Ok(F64Scalar {
+                value: OrderedFloat(0.0),
+            })
         } else {
-            Ok(F64Scalar { value: raw })
+            Ok(F64Scalar {
+                value: OrderedFloat(raw),
+            })
         }
     }
 
     // The very float, so never -0.0.
     fn raw(self) -> f64
-        ensures remakes { (f64_refusal result ≡ None) × (units_of result ≡ units_of self.value) }
-        ensures value { result ≡ self.value }
+        ensures remakes { (f64_refusal result ≡ None) × (units_of result ≡ units_of self.value.0) }
+        ensures value { result ≡ self.value.0 }
     {
-        self.value
+        self.value.0
     }
 
     fn to_units(self) -> i32 {
-        (self.value * 256.0) as i32
+        (self.value.0 * 256.0) as i32
     }
 
     fn from_units(u: i32) -> F64Scalar {
         F64Scalar {
-            value: read_units(u) as f64 / 256.0,
+            value: OrderedFloat(read_units(u) as f64 / 256.0),
         }
+    }
+}
+
+// Its millimetres.
+impl fmt::Display for F64Scalar {
+    fn fmt<W: fmt::Write>(&self, f: &mut fmt::Formatter<W>) -> fmt::Result {
+        fmt::Display::fmt(&self.value.0, f)
     }
 }

@@ -2,15 +2,21 @@
 ghost use Rattle.std.specs.Prelude.{◌≡◌};
 ghost use Rattle.scalar.specs.Faults.{i32_fault, f64_fault};
 
-#[derive(Clone, Copy, Debug)]
+use thiserror::Error;
+
+#[derive(Clone, Copy, PartialEq, Eq, Debug, Error)]
 pub enum I32Fault {
+    #[error("{0} units is beyond reach")]
     BeyondReach(i32),
 }
 
-#[derive(Clone, Copy, Debug)]
+#[derive(Clone, Copy, PartialEq, Debug, Error)]
 pub enum F64Fault {
+    #[error("not a number")]
     NotANumber,
+    #[error("{0} mm is beyond reach")]
     BeyondReach(f64),
+    #[error("{0} mm is off the grid")]
     OffGrid(f64),
 }
 

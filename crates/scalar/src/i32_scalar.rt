@@ -1,24 +1,31 @@
 // The i32 scalar, in units.
 ghost use Rattle.plane.specs.Reach.{Within};
 ghost use Rattle.scalar.specs.Faults.{i32_fault, i32_refusal};
+ghost use Rattle.std.proofs.Common.{rules};
 ghost use mathlib.Core.HLevel.{is_prop→PathP};
 ghost use Rattle.scalar.specs.Reaching.{within_prop};
 
-use crate::coord_num::{CoordNum, read_units};
+use crate::coord_num::{CoordNum, is_within_reach, read_units};
 use crate::fault::I32Fault;
+use crate::units::Units;
+use std::fmt;
 
-#[derive(Clone, Copy, Debug)]
+#[derive(Clone, Copy, PartialEq, Eq, PartialOrd, Ord, Debug)]
 pub struct I32Scalar {
     value: i32,
     ghost reach: { Within value },
+}
+
+impl Units for I32Scalar {
+    ghost units = { λ s. s.value };
+
+    ghost ordered = { λ x y. Prim.search rules };
 }
 
 impl CoordNum for I32Scalar {
     type Raw = i32;
 
     type Fault = I32Fault;
-
-    ghost units = { λ s. s.value };
 
     ghost measure = { λ u. u };
 
@@ -31,10 +38,11 @@ impl CoordNum for I32Scalar {
     ghost equal_units = { λ x y e i. record { value = e i; reach = is_prop→PathP (λ j. Within (e j)) (λ j. within_prop (e j)) x.reach y.reach i } };
 
     fn new(raw: i32) -> Result<I32Scalar, I32Fault> {
-        if raw < -536870912 || raw > 536870912 {
-            return Err(I32Fault::BeyondReach(raw));
+        if is_within_reach(raw) {
+            Ok(I32Scalar { value: raw })
+        } else {
+            Err(I32Fault::BeyondReach(raw))
         }
-        Ok(I32Scalar { value: raw })
     }
 
     fn raw(self) -> i32 {
@@ -49,5 +57,12 @@ impl CoordNum for I32Scalar {
         I32Scalar {
             value: read_units(u),
         }
+    }
+}
+
+// Its units.
+impl fmt::Display for I32Scalar {
+    fn fmt<W: fmt::Write>(&self, f: &mut fmt::Formatter<W>) -> fmt::Result {
+        fmt::Display::fmt(&self.value, f)
     }
 }

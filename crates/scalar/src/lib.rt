@@ -6,3 +6,4 @@ pub mod coord_num;
 pub mod f64_scalar;
 pub mod fault;
 pub mod i32_scalar;
+pub mod units;

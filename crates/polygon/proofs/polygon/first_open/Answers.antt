@@ -1,15 +1,12 @@
-use Rattle.std.proofs.Common.{refl}
-use Rattle.polygon.proofs.Holes.{open_hole, closed_hole, all_holes_closed}
+use Rattle.std.proofs.Common.{◌≡◌, rules}
+use Rattle.std.specs.List.{position}
+use Rattle.std.proofs.lemmas.Iterator.{YieldsList-from_slice}
+use Rattle.std.proofs.lemmas.Iterator.Search.{position_from_yields_List}
+use Rattle.polygon.proofs.Holes.{is_open, open_told, first_refused}
 use Rattle.polygon.proofs.polygon.first_open.Goals as goal
 
-pub loop-i-init : goal.loop-i-init
-loop-i-init g c = refl
-
-pub returns-then-not-is_closed : goal.returns-then-not-is_closed
-returns-then-not-is_closed g c = open_hole c.args.interiors.now c.loop-i.i c.loop-i.invariant _ c.loop-i-test.true c.if-not-is_closed.ensures
-
-pub loop-i-preserved : goal.loop-i-preserved
-loop-i-preserved g c = closed_hole c.args.interiors.now c.loop-i.i c.loop-i.invariant _ c.loop-i-test.true c.if-not-is_closed.ensures
-
 pub returns : goal.returns
-returns g c = all_holes_closed c.args.interiors.now c.loop-i.i c.loop-i.invariant c.loop-i-test.false
+returns g c =
+    let hs = c.args.interiors.now in
+    let e : c.position.result ≡ position is_open hs = position_from_yields_List is_open _ _ _ c.position.ensures.ran (YieldsList-from_slice hs cc) (λ x b q k. (search rules, open_told x.now b (search rules))) in
+    first_refused hs c.position.result c.map.result e (search rules)

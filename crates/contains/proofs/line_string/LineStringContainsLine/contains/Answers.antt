@@ -17,7 +17,7 @@ by_points r vs t h = reflects_same r (string_contains_segment vs t) (segment_in_
 
 pub returns-then-eq : goal.returns-then-eq
 returns-then-eq g c =
-    let u = g.T.CoordNum.units in
+    let u = g.T.Units.units in
     let vs = vertices c.args.self.now.points.now in
     let t = segment u c.args.line.now in
     let r = c.contains.result in
@@ -25,9 +25,9 @@ returns-then-eq g c =
     let h : Reflects r (StringContainsSegment vs t) = reflects_same r (λ i. record { point = λ _. i; longer = λ n. absurd (n z) }) (λ e. e.point z) c.contains.ensures.rule in
     record { points = by_points r vs t h; rule = h }
 
-pub returns : goal.returns
-returns g c =
-    let u = g.T.CoordNum.units in
+pub returns-else-eq : goal.returns-else-eq
+returns-else-eq g c =
+    let u = g.T.Units.units in
     let vs = vertices c.args.self.now.points.now in
     let t = segment u c.args.line.now in
     let r = c.covers.result in

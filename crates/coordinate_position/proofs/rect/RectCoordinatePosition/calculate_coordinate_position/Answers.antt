@@ -1,26 +1,29 @@
-use Rattle.std.proofs.Common.{true, false}
+use Rattle.std.proofs.Common.{not, ap}
+use Rattle.plane.proofs.Answers.{reflects_no}
 use Rattle.scalar.specs.Coords.{grid_point}
 use Rattle.geometry.specs.Rects.{box}
 use Rattle.geometry.proofs.RectLaws.{box_ordered}
+use Rattle.coordinate_position.specs.declared.position.Membership.{Membership}
 use Rattle.coordinate_position.proofs.Memberships.{box_membership}
 use Rattle.coordinate_position.proofs.Outlines.{strictly_not_outline, outline_reflects}
 use Rattle.coordinate_position.proofs.rect.RectCoordinatePosition.calculate_coordinate_position.Goals as goal
 
-pub returns-then-contains : goal.returns-then-contains
-returns-then-contains g c =
-    let u = g.T.CoordNum.units in
+pub returns-then-not-inside : goal.returns-then-not-inside
+returns-then-not-inside g c =
+    let u = g.T.Units.units in
     let b = box u c.args.self.now in
     let k = grid_point u c.args.coord.now in
-    let i = c.if-contains.ensures.rule in
-    let o = strictly_not_outline b k (box_ordered u c.args.self.now) i in
-    record { value = box_membership b k (record { inside = true; odd = false }) i o; inside = i; boundary = o }
+    let m : Membership = record { inside = c.contains-inside.result; odd = c.intersects.result } in
+    let i = c.contains-inside.ensures.rule in
+    let o = outline_reflects b k m.odd (box_ordered u c.args.self.now) c.if-not-inside.ensures.rule c.intersects.ensures.points in
+    record { value = box_membership b k m i o; inside = i; boundary = o }
 
-pub returns : goal.returns
-returns g c =
-    let u = g.T.CoordNum.units in
+pub returns-else-not-inside : goal.returns-else-not-inside
+returns-else-not-inside g c =
+    let u = g.T.Units.units in
     let b = box u c.args.self.now in
     let k = grid_point u c.args.coord.now in
-    let r = c.intersects.result in
-    let i = c.if-contains.ensures.rule in
-    let o = outline_reflects b k r (box_ordered u c.args.self.now) i c.intersects.ensures.points in
-    record { value = box_membership b k (record { inside = false; odd = r }) i o; inside = i; boundary = o }
+    let m : Membership = record { inside = c.contains-inside.result; odd = not c.contains-inside.result } in
+    let i = c.contains-inside.ensures.rule in
+    let o = reflects_no m.odd (ap not c.if-not-inside.false) (strictly_not_outline b k (box_ordered u c.args.self.now) c.if-not-inside.ensures.rule) in
+    record { value = box_membership b k m i o; inside = i; boundary = o }

@@ -7,5 +7,5 @@ use Rattle.intersects.proofs.coordinate.CoordIntersectsLine.intersects.Goals as 
 
 pub returns : goal.returns
 returns g c =
-    let u = g.T.CoordNum.units in
-    record { points = swap_reflects c.intersects.result (On (segment u c.args.rhs.now)) (At (grid_point u c.args.self.now)) c.intersects.ensures.points }
+    let u = g.T.Units.units in
+    record { points = swap_reflects c.intersects.result (On (segment u c.args.line.now)) (At (grid_point u c.args.self.now)) c.intersects.ensures.points }

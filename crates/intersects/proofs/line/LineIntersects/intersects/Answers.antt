@@ -12,7 +12,7 @@ use Rattle.intersects.proofs.line.LineIntersects.intersects.Goals as goal
 
 pub returns-then-eq : goal.returns-then-eq
 returns-then-eq g c =
-    let u = g.T.CoordNum.units in
+    let u = g.T.Units.units in
     record {
       points =
           point_reflects c.intersects.result (segment u c.args.self.now) (segment u c.args.line.now) (ap (grid_point u) c.if-eq.ensures.same) c.intersects.ensures.points;
@@ -20,7 +20,7 @@ returns-then-eq g c =
 
 pub returns-then-ne : goal.returns-then-ne
 returns-then-ne g c =
-    let u = g.T.CoordNum.units in
+    let u = g.T.Units.units in
     let o11 = c.orient2d-check_1_1.ensures.turn in
     let o12 = c.orient2d-check_1_2.ensures.turn in
     let o21 = c.orient2d-check_2_1.ensures.turn in
@@ -34,7 +34,7 @@ returns-then-ne g c =
 
 pub returns-then-eq-2 : goal.returns-then-eq-2
 returns-then-eq-2 g c =
-    let u = g.T.CoordNum.units in
+    let u = g.T.Units.units in
     let o11 = c.orient2d-check_1_1.ensures.turn in
     let o12 = c.orient2d-check_1_2.ensures.turn in
     record {
@@ -46,7 +46,7 @@ returns-then-eq-2 g c =
 
 pub returns-else-eq-2 : goal.returns-else-eq-2
 returns-else-eq-2 g c =
-    let u = g.T.CoordNum.units in
+    let u = g.T.Units.units in
     let o11 = c.orient2d-check_1_1.ensures.turn in
     let o12 = c.orient2d-check_1_2.ensures.turn in
     record {

@@ -11,7 +11,7 @@ use Rattle.intersects.proofs.line.LineIntersectsCoord.intersects.Goals as goal
 
 pub returns-then-eq : goal.returns-then-eq
 returns-then-eq g c =
-    let u = g.T.CoordNum.units in
+    let u = g.T.Units.units in
     let s = segment u c.args.self.now in
     let k = grid_point u c.args.rhs.now in
     let r = c.point_in_rect.result in
@@ -21,7 +21,7 @@ returns-then-eq g c =
 
 pub returns-else-eq : goal.returns-else-eq
 returns-else-eq g c =
-    let u = g.T.CoordNum.units in
+    let u = g.T.Units.units in
     let s = segment u c.args.self.now in
     let k = grid_point u c.args.rhs.now in
     let r = c.eq.result in

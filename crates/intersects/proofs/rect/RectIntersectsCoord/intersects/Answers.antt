@@ -15,7 +15,7 @@ held_reflects b r lo hi k e f h = box_coord_reflects b r k (subst (λ (q : Box).
 
 pub returns-then-value_in_range : goal.returns-then-value_in_range
 returns-then-value_in_range g c =
-    let u = g.T.CoordNum.units in
+    let u = g.T.Units.units in
     let x = c.if-value_in_range.ensures in
     let r = c.value_in_range-then-value_in_range.result in
     record {
@@ -26,7 +26,7 @@ returns-then-value_in_range g c =
 
 pub returns-else-value_in_range : goal.returns-else-value_in_range
 returns-else-value_in_range g c =
-    let u = g.T.CoordNum.units in
+    let u = g.T.Units.units in
     let r = c.value_in_range.result in
     record {
       points =

@@ -28,7 +28,7 @@ left_over r lo hi e f = λ i. record { x = (e i).x; y = (f i).y }
 
 pub returns-then-not-intersects : goal.returns-then-not-intersects
 returns-then-not-intersects g c =
-    let u = g.T.CoordNum.units in
+    let u = g.T.Units.units in
     let r = box u c.args.self.now in
     record {
       points =
@@ -37,7 +37,7 @@ returns-then-not-intersects g c =
 
 pub returns-then-ne : goal.returns-then-ne
 returns-then-ne g c =
-    let u = g.T.CoordNum.units in
+    let u = g.T.Units.units in
     let s = segment u c.args.rhs.now in
     let r = box u c.args.self.now in
     let e0 = at_corner s _ _ r.min c.orient2d-o0.ensures.turn c.min-c0.ensures in
@@ -50,7 +50,7 @@ returns-then-ne g c =
 
 pub returns-then-ne-2 : goal.returns-then-ne-2
 returns-then-ne-2 g c =
-    let u = g.T.CoordNum.units in
+    let u = g.T.Units.units in
     let s = segment u c.args.rhs.now in
     let r = box u c.args.self.now in
     let e0 = at_corner s _ _ r.min c.orient2d-o0.ensures.turn c.min-c0.ensures in
@@ -63,7 +63,7 @@ returns-then-ne-2 g c =
 
 pub returns-then-ne-3 : goal.returns-then-ne-3
 returns-then-ne-3 g c =
-    let u = g.T.CoordNum.units in
+    let u = g.T.Units.units in
     let s = segment u c.args.rhs.now in
     let r = box u c.args.self.now in
     let e0 = at_corner s _ _ r.min c.orient2d-o0.ensures.turn c.min-c0.ensures in
@@ -76,7 +76,7 @@ returns-then-ne-3 g c =
 
 pub returns : goal.returns
 returns g c =
-    let u = g.T.CoordNum.units in
+    let u = g.T.Units.units in
     let s = segment u c.args.rhs.now in
     let r = box u c.args.self.now in
     let e0 = at_corner s _ _ r.min c.orient2d-o0.ensures.turn c.min-c0.ensures in
