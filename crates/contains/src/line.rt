@@ -1,9 +1,7 @@
-ghost use Rattle.std.specs.List.{AllByRecursion};
 ghost use Rattle.plane.specs.Points.{On, Touches};
-ghost use Rattle.plane.specs.Reach.{read_point};
 ghost use Rattle.plane.specs.Reflects.{Reflects, Iff};
 ghost use Rattle.plane.specs.Sets.{Common, Subset, At, Interior, ContainsByEnds};
-ghost use Rattle.polyline.specs.Strings.{vertices, OnString, SegmentContainsString};
+ghost use Rattle.polyline.specs.Strings.{OnString, SegmentContainsString};
 ghost use Rattle.scalar.specs.Coords.{grid_point};
 ghost use Rattle.geometry.specs.Shapes.{segment};
 ghost use Rattle.line_strings.specs.Views.{vertices_of};
@@ -13,7 +11,6 @@ use geometry::line::Line;
 use intersects::Intersects;
 use kernel::geo_num::GeoNum;
 use line_strings::line_string::LineString;
-use plane::grid_point::GridPoint;
 use scalar::coord::Coord;
 use scalar::coord_num::CoordNum;
 

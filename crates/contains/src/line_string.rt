@@ -1,6 +1,4 @@
-ghost use Rattle.std.specs.List.{AllByRecursion};
 ghost use Rattle.plane.specs.Points.{On, LongerThanZero};
-ghost use Rattle.plane.specs.Reach.{read_point};
 ghost use Rattle.plane.specs.Reflects.{Reflects};
 ghost use Rattle.plane.specs.Sets.{Common, Subset, At};
 ghost use Rattle.polyline.specs.Segments.{Covered};
@@ -13,7 +11,6 @@ use crate::Contains;
 use geometry::line::Line;
 use kernel::geo_num::GeoNum;
 use line_strings::line_string::LineString;
-use plane::grid_point::GridPoint;
 use scalar::coord::Coord;
 use scalar::coord_num::CoordNum;
 

@@ -10,6 +10,7 @@ use scalar::coord_num::CoordNum;
 use scalar::f64_scalar::F64Scalar;
 use scalar::i32_scalar::I32Scalar;
 use std::process::Abort;
+use std::test::Fail;
 
 const OUTLINE: [GridPoint; 5] = [
     GridPoint { x: 0, y: 0 },
@@ -34,30 +35,16 @@ const OPEN: [GridPoint; 3] = [
 ];
 
 // The position in the polygon of an exterior and two holes.
-fn in_polygon<'a, T: GeoNum>(
-    exterior: &'a [GridPoint],
-    first: &'a [GridPoint],
-    second: &'a [GridPoint],
-    p: GridPoint,
-) -> Result<CoordPos, RingFault> {
+fn in_polygon<T: GeoNum>(rings: [&[GridPoint]; 3], p: GridPoint) -> Result<CoordPos, RingFault> {
+    let [exterior, first, second] = rings;
     let holes = [LineString::<T>::new(first), LineString::<T>::new(second)];
     let polygon = Polygon::new(LineString::new(exterior), &holes)?;
     Ok(polygon.coordinate_position(&at(p)))
 }
 
-fn polygon<T: GeoNum>(
-    rt: &impl Abort,
-    exterior: &[GridPoint],
-    first: &[GridPoint],
-    second: &[GridPoint],
-    cases: &[(GridPoint, CoordPos)],
-) {
+fn polygon<T: GeoNum>(rt: &impl Abort, rings: [&[GridPoint]; 3], cases: &[(GridPoint, CoordPos)]) {
     for (p, expected) in cases {
-        assert_eq!(rt;
-            in_polygon::<T>(exterior, first, second, *p),
-            Ok(*expected),
-            "at {p:?}"
-        );
+        assert_eq!(rt; in_polygon::<T>(rings, *p), Ok(*expected), "at {p:?}");
     }
 }
 
@@ -75,16 +62,14 @@ const FILLED: [(GridPoint, CoordPos); 2] = [
 ];
 
 fn polygons<T: GeoNum>(rt: &impl Abort) {
-    polygon::<T>(rt, &OUTLINE, &[], &HOLE, &WITH_A_HOLE);
-    polygon::<T>(rt, &OUTLINE, &OUTLINE, &[], &FILLED);
+    polygon::<T>(rt, [&OUTLINE, &[], &HOLE], &WITH_A_HOLE);
+    polygon::<T>(rt, [&OUTLINE, &OUTLINE, &[]], &FILLED);
     // no exterior
-    polygon::<T>(rt, &[], &HOLE, &[], &[(point(2, 3), CoordPos::Outside)]);
+    polygon::<T>(rt, [&[], &HOLE, &[]], &[(point(2, 3), CoordPos::Outside)]);
     // the first hole that is not outside decides
     polygon::<T>(
         rt,
-        &OUTLINE,
-        &[point(3, 3)],
-        &HOLE,
+        [&OUTLINE, &[point(3, 3)], &HOLE],
         &[(point(3, 3), CoordPos::OnBoundary)],
     );
 }
@@ -96,27 +81,26 @@ fn positions_in_polygons(rt: HostRuntime) {
 }
 
 // What a polygon of these rings is refused with, if it is.
-fn refusal<T: GeoNum>(
-    exterior: &[GridPoint],
-    first: &[GridPoint],
-    second: &[GridPoint],
-) -> Option<RingFault> {
-    in_polygon::<T>(exterior, first, second, point(0, 0)).err()
+fn refusal<T: GeoNum>(rings: [&[GridPoint]; 3]) -> Option<RingFault> {
+    in_polygon::<T>(rings, point(0, 0)).err()
 }
 
 fn refused<T: GeoNum>(rt: &impl Abort) {
-    assert_eq!(rt; refusal::<T>(&OUTLINE, &HOLE, &HOLE), None);
-    assert_eq!(rt; refusal::<T>(&OPEN, &OPEN, &HOLE), Some(RingFault::Open(0)));
+    assert_eq!(rt; refusal::<T>([&OUTLINE, &HOLE, &HOLE]), None);
     assert_eq!(rt;
-        refusal::<T>(&OUTLINE, &HOLE, &OPEN),
+        refusal::<T>([&OPEN, &OPEN, &HOLE]),
+        Some(RingFault::Open(0))
+    );
+    assert_eq!(rt;
+        refusal::<T>([&OUTLINE, &HOLE, &OPEN]),
         Some(RingFault::Open(2))
     );
     assert_eq!(rt;
-        refusal::<T>(&OUTLINE, &OPEN, &OPEN),
+        refusal::<T>([&OUTLINE, &OPEN, &OPEN]),
         Some(RingFault::Open(1))
     );
     assert_eq!(rt;
-        refusal::<T>(&[], &OPEN, &HOLE),
+        refusal::<T>([&[], &OPEN, &HOLE]),
         Some(RingFault::Open(1)),
         "an empty exterior does not excuse an open hole"
     );
@@ -126,4 +110,16 @@ fn refused<T: GeoNum>(rt: &impl Abort) {
 fn open_rings_of_polygons(rt: HostRuntime) {
     refused::<I32Scalar>(&rt);
     refused::<F64Scalar>(&rt);
+}
+
+#[test]
+fn cloned_polygons(rt: HostRuntime) -> Result<(), Fail> {
+    let holes = [LineString::<I32Scalar>::new(&HOLE)];
+    let polygon = Polygon::new(LineString::new(&OUTLINE), &holes)?;
+    let clone = polygon.clone()?;
+    assert_eq!(rt;
+        clone.coordinate_position(&at(point(3, 3))),
+        CoordPos::Outside
+    );
+    Ok(())
 }

@@ -9,6 +9,7 @@ use scalar::coord_num::CoordNum;
 use scalar::f64_scalar::F64Scalar;
 use scalar::i32_scalar::I32Scalar;
 use std::process::Abort;
+use std::test::Fail;
 
 fn in_ring<T: GeoNum>(points: &[GridPoint], p: GridPoint) -> Result<CoordPos, RingFault> {
     coord_pos_relative_to_ring(at(p), &LineString::<T>::new(points))
@@ -127,4 +128,11 @@ fn open_rings(rt: HostRuntime) {
         Err(RingFault::Open(0))
     );
     assert_eq!(rt; RingFault::Open(0).number(), 4);
+}
+
+#[test]
+fn printed_open_rings(rt: HostRuntime) -> Result<(), Fail> {
+    let text = RingFault::Open(2).to_string(rt.alloc())?;
+    assert_eq!(rt; text.as_str(), "ring 2 is open");
+    Ok(())
 }

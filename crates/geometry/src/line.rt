@@ -1,5 +1,5 @@
 ghost use Rattle.std.specs.Prelude.{◌≡◌};
-ghost use Rattle.plane.specs.Reach.{read_point};
+ghost use Rattle.plane.specs.Reach.{read_segment};
 ghost use Rattle.geometry.specs.Shapes.{segment};
 
 use plane::grid_point::GridPoint;
@@ -22,7 +22,7 @@ impl<T: CoordNum> Line<T> {
 
     // The line that two grid points are read as.
     pub fn from_grid(start: GridPoint, end: GridPoint) -> Line<T>
-        ensures { segment T.units result ≡ record { p = read_point start; q = read_point end } }
+        ensures { segment T.units result ≡ read_segment start end }
     {
         Line {
             start: Coord::from_grid(start),

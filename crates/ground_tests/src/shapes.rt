@@ -6,6 +6,7 @@ use scalar::coord_num::CoordNum;
 use scalar::f64_scalar::F64Scalar;
 use scalar::i32_scalar::I32Scalar;
 use std::process::Abort;
+use std::test::Fail;
 
 // Checks the sides of a shape against the units of their ends.
 fn sides<T: CoordNum>(rt: &impl Abort, lines: &[Line<T>], ends: &[(i32, i32, i32, i32)]) {
@@ -42,4 +43,12 @@ fn a_triangle_lists_its_sides_in_order(rt: HostRuntime) {
     sides(&rt, &flat.to_lines(), &ends);
     let flat = Triangle::<F64Scalar>::new(at(0, 0), at(5, 0), at(5, 0));
     sides(&rt, &flat.to_lines(), &ends);
+}
+
+#[test]
+fn a_cloned_rectangle_has_its_corners(rt: HostRuntime) -> Result<(), Fail> {
+    let clone = rect::<F64Scalar>(4, -1, -2, 3).clone()?;
+    assert_eq!(rt; GridPoint::from(clone.min()), GridPoint { x: -2, y: -1 });
+    assert_eq!(rt; GridPoint::from(clone.max()), GridPoint { x: 4, y: 3 });
+    Ok(())
 }

@@ -3,7 +3,7 @@
 
 pub mod coordinate;
 pub mod line;
-pub mod ranges;
+mod ranges;
 pub mod rect;
 
 ghost use Rattle.plane.specs.Reflects.{Reflects};

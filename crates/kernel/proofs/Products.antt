@@ -1,5 +1,5 @@
 -- Products of two differences, and the difference of two such products, in 64 bits.
-use Rattle.std.proofs.Common.{◌≡◌, ℕ, suc, ◌*◌, ◌≤◌, ℤ, pos, negsuc, ◌-ℤ◌, ◌*ℤ◌, ◌≤ℤ◌, sym, ◌∙◌, subst, mul-le-mul, arith, w32, w64, SFits, to_z, of_z}
+use Rattle.std.proofs.Common.{◌≡◌, ℕ, suc, ◌*◌, ◌≤◌, ℤ, pos, negsuc, ◌-ℤ◌, ◌*ℤ◌, ◌≤ℤ◌, ◌∙◌, mul-le-mul, arith, w32, w64, SFits, to_z, of_z}
 use Rattle.std.proofs.lemmas.Int.{ints, to_z-of_z}
 use Rattle.plane.specs.Orient.{AtMostTwoTo61}
 use Rattle.kernel.specs.Signs.{Difference}
@@ -30,21 +30,6 @@ product_fits a b h k = omega (arith, ints, product_within a b h k)
 pub cross_fits : (z : ℤ) → AtMostTwoTo61 z → SFits w64 z
 cross_fits z h = omega (arith, ints)
 
--- a difference as the machine passes it on
-pub difference_held : (r x y : ℤ) → SFits w64 r → SFits w32 x → SFits w32 y → r ≡ to_z w32 (of_z w32 x) -ℤ to_z w32 (of_z w32 y) → to_z w64 (of_z w64 r) ≡ x -ℤ y
-difference_held r x y f g h e = to_z-of_z w64 r f ∙ e ∙ (λ i. to_z-of_z w32 x g i -ℤ to_z-of_z w32 y h i)
-
--- the same of two numbers that mean u and v
+-- a difference of two numbers that mean u and v, as the machine passes it on
 pub units_apart : (r x y u v : ℤ) → SFits w64 r → SFits w32 x → SFits w32 y → r ≡ to_z w32 (of_z w32 x) -ℤ to_z w32 (of_z w32 y) → x ≡ u → y ≡ v → to_z w64 (of_z w64 r) ≡ u -ℤ v
-units_apart r x y u v f g h e p q = difference_held r x y f g h e ∙ (λ i. p i -ℤ q i)
-
-pub bound_held : (r : ℤ) → SFits w64 r → Difference r → Difference (to_z w64 (of_z w64 r))
-bound_held r f h = subst (λ (z : ℤ). Difference z) (sym (to_z-of_z w64 r f)) h
-
-factor_held : (r z : ℤ) → Difference r → r ≡ z → to_z w64 (of_z w64 r) ≡ z
-factor_held r z h e = to_z-of_z w64 r (omega (arith, ints)) ∙ e
-
--- the determinant of factors as the machine passes them on
-pub cross_held : (f₀ f₁ f₂ f₃ a b c e : ℤ) → (f₀ ≡ a) × (f₁ ≡ b) × (f₂ ≡ c) × (f₃ ≡ e) → Difference f₀ × Difference f₁ × Difference f₂ × Difference f₃
-    → (to_z w64 (of_z w64 f₀) *ℤ to_z w64 (of_z w64 f₁)) -ℤ (to_z w64 (of_z w64 f₂) *ℤ to_z w64 (of_z w64 f₃)) ≡ (a *ℤ b) -ℤ (c *ℤ e)
-cross_held f₀ f₁ f₂ f₃ a b c e v h = λ i. (factor_held f₀ a h.0 v.0 i *ℤ factor_held f₁ b h.1 v.1 i) -ℤ (factor_held f₂ c h.2 v.2 i *ℤ factor_held f₃ e h.3 v.3 i)
+units_apart r x y u v f g h e p q = to_z-of_z w64 r f ∙ e ∙ (λ i. to_z-of_z w32 x g i -ℤ to_z-of_z w32 y h i) ∙ (λ i. p i -ℤ q i)

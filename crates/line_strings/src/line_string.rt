@@ -1,7 +1,7 @@
 ghost use Rattle.std.specs.Prelude.{◌≡◌};
 ghost use Rattle.plane.specs.Reflects.{Reflects};
 ghost use Rattle.polyline.specs.Segments.{OnAny, Covered};
-ghost use Rattle.polyline.specs.Strings.{vertices, segments, Closed, AllEqual, AtEnd, OnString, StringInterior};
+ghost use Rattle.polyline.specs.Strings.{segments, Closed, AllEqual, AtEnd, OnString, StringInterior};
 ghost use Rattle.geometry.specs.Shapes.{segment};
 ghost use Rattle.line_strings.specs.Views.{vertices_of};
 
@@ -59,8 +59,7 @@ impl<'a, T: GeoNum> LineString<'a, T> {
             return true;
         };
         let first = Coord::<T>::from_grid(*first);
-        rest.iter()
-            .all(|point| Coord::<T>::from_grid(*point) == first)
+        rest.iter().all(|point| Coord::from_grid(*point) == first)
     }
 
     // Whether the coordinate is the first vertex or the last.

@@ -3,7 +3,7 @@
 // vertical, along x otherwise, in units.
 ghost use Rattle.std.specs.Prelude.{◌≡◌};
 ghost use Rattle.plane.specs.Points.{LongerThanZero};
-ghost use Rattle.plane.specs.Reach.{read_point};
+ghost use Rattle.plane.specs.Reach.{read_point, read_segment};
 ghost use Rattle.plane.specs.Reflects.{Reflects};
 ghost use Rattle.polyline.specs.Tests.{collinear};
 ghost use Rattle.polyline.specs.Segments.{Covered};
@@ -67,7 +67,7 @@ enum Axis {
 impl Axis {
     // Where the segment between two vertices begins and ends along the axis.
     fn span(self, start: GridPoint, end: GridPoint) -> (i32, i32)
-        ensures { result ≡ span (is_y self) (record { p = read_point start; q = read_point end }) }
+        ensures { result ≡ span (is_y self) (read_segment start end) }
     {
         match self {
             Axis::X => in_order(read_units(start.x), read_units(end.x)),
@@ -113,7 +113,7 @@ impl<'l, T: GeoNum> Target<'l, T> {
     // What the segment between two vertices leaves of a stretch. The spans are compared before any product is worked
     // out.
     fn trim_by_segment(&self, stretch: (i32, i32), start: GridPoint, end: GridPoint) -> (i32, i32)
-        ensures { result ≡ trim_by (segment T.units self.now.line.now) stretch (record { p = read_point start; q = read_point end }) }
+        ensures { result ≡ trim_by (segment T.units self.now.line.now) stretch (read_segment start end) }
     {
         let by = self.axis.span(start, end);
         if !are_apart(stretch, by) && self.is_collinear(start) && self.is_collinear(end) {
@@ -136,6 +136,7 @@ impl<'l, T: GeoNum> Target<'l, T> {
         }
         left
     }
+
     // Whether the segments cover the line, if it is longer than zero.
     pub(crate) fn is_covered_by(&self, points: &[GridPoint]) -> bool
         requires { LongerThanZero (segment T.units self.now.line.now) }

@@ -13,6 +13,7 @@ use scalar::coord::Coord;
 use scalar::coord_num::CoordNum;
 use scalar::f64_scalar::F64Scalar;
 use scalar::i32_scalar::I32Scalar;
+use scalar::units::Units;
 use std::io;
 
 // Lengths in millimetres that show the step of the grid and the end of its reach.
@@ -29,44 +30,59 @@ fn print_length(rt: &impl Print, x: f64) -> io::Result<()> {
     }
 }
 
-// The clamp between two corners, at any scalar.
-fn clamp<T: CoordNum>(a: GridPoint, b: GridPoint) -> Rect<T> {
-    Rect::new(Coord::from_grid(a), Coord::from_grid(b))
+// The outline of the blank and the clamp that holds it, at any scalar.
+#[derive(Drop)]
+struct Setup<'a, T: Units> {
+    outline: &'a [GridPoint],
+    clamp: Rect<T>,
 }
 
-// How many edges of the outline have a point in common with the clamp, by the scalar's own kernel.
-fn edges_met<T: GeoNum>(outline: &[GridPoint], clamp: &Rect<T>) -> usize {
-    LineString::new(outline)
-        .lines()
-        .filter(|edge| clamp.intersects(edge))
-        .count()
-}
-
-fn print_edges(rt: &impl Print, outline: &[GridPoint], clamp: &Rect<F64Scalar>) -> io::Result<()> {
-    for edge in LineString::new(outline).lines() {
-        let verdict = if clamp.intersects(&edge) {
-            "meets the clamp"
-        } else {
-            "is clear of the clamp"
-        };
-        println!(rt; "  {} to {} mm {verdict}", edge.start, edge.end)?;
-    }
-    Ok(())
-}
-
-// Prints the corners of the outline that lie strictly within the clamp.
-fn print_clamped(
-    rt: &impl Print,
-    outline: &[GridPoint],
-    clamp: &Rect<F64Scalar>,
-) -> io::Result<()> {
-    for p in outline {
-        let corner = Coord::from_grid(*p);
-        if clamp.contains(&corner) {
-            println!(rt; "  {corner} mm lies strictly within the clamp")?;
+impl<'a, T: GeoNum> Setup<'a, T> {
+    // The clamp lies between two corners.
+    fn new(outline: &'a [GridPoint], a: GridPoint, b: GridPoint) -> Setup<'a, T> {
+        Setup {
+            outline,
+            clamp: Rect::new(Coord::from_grid(a), Coord::from_grid(b)),
         }
     }
-    Ok(())
+
+    // How many edges of the outline have a point in common with the clamp, by the scalar's own kernel.
+    fn count_edges_met(&self) -> usize {
+        LineString::new(self.outline)
+            .lines()
+            .filter(|edge| self.clamp.intersects(edge))
+            .count()
+    }
+}
+
+impl Setup<'_, F64Scalar> {
+    fn print_clamp(&self, rt: &impl Print) -> io::Result<()> {
+        let (min, max) = (self.clamp.min(), self.clamp.max());
+        println!(rt; "The clamp lies from {min} to {max} mm")
+    }
+
+    fn print_edges(&self, rt: &impl Print) -> io::Result<()> {
+        for edge in LineString::new(self.outline).lines() {
+            let verdict = if self.clamp.intersects(&edge) {
+                "meets the clamp"
+            } else {
+                "is clear of the clamp"
+            };
+            println!(rt; "  {} to {} mm {verdict}", edge.start, edge.end)?;
+        }
+        Ok(())
+    }
+
+    // Prints the corners of the outline that lie strictly within the clamp.
+    fn print_clamped(&self, rt: &impl Print) -> io::Result<()> {
+        for p in self.outline {
+            let corner = Coord::from_grid(*p);
+            if self.clamp.contains(&corner) {
+                println!(rt; "  {corner} mm lies strictly within the clamp")?;
+            }
+        }
+        Ok(())
+    }
 }
 
 fn main(rt: HostRuntime) -> io::Result<()> {
@@ -83,21 +99,18 @@ fn main(rt: HostRuntime) -> io::Result<()> {
     let &[a, b, ..] = clamped.as_slice() else {
         return println!(rt; "The clamp has no two corners on the grid");
     };
-    let in_millimetres = clamp::<F64Scalar>(a, b);
-    println!(rt;
-        "The clamp lies from {} to {} mm",
-        in_millimetres.min(),
-        in_millimetres.max()
-    )?;
+    let in_millimetres = Setup::<F64Scalar>::new(&outline, a, b);
+    in_millimetres.print_clamp(&rt)?;
     println!(rt; "Edges of the outline:")?;
-    print_edges(&rt, &outline, &in_millimetres)?;
-    print_clamped(&rt, &outline, &in_millimetres)?;
+    in_millimetres.print_edges(&rt)?;
+    in_millimetres.print_clamped(&rt)?;
     println!(rt;
         "Edges that meet the clamp, in f64 millimetres: {}",
-        edges_met(&outline, &in_millimetres)
+        in_millimetres.count_edges_met()
     )?;
+    let in_units = Setup::<I32Scalar>::new(&outline, a, b);
     println!(rt;
         "Edges that meet the clamp, in i32 units: {}",
-        edges_met(&outline, &clamp::<I32Scalar>(a, b))
+        in_units.count_edges_met()
     )
 }

@@ -1,7 +1,7 @@
 // How an edge of a ring passes a coordinate.
 ghost use Rattle.std.specs.Prelude.{◌≡◌, ◌≤ℤ◌, ◌<ℤ◌};
 ghost use Rattle.plane.specs.Points.{Between};
-ghost use Rattle.plane.specs.Reach.{read, read_point};
+ghost use Rattle.plane.specs.Reach.{read, read_segment};
 ghost use Rattle.plane.specs.Reflects.{Reflects};
 ghost use Rattle.scalar.specs.Coords.{grid_point};
 ghost use Rattle.polygon.specs.Passings.{Passes};
@@ -44,7 +44,7 @@ impl<T: GeoNum> Probe<T> {
     // How the edge between two vertices passes the coordinate. The kernel is asked only if the edge reaches the
     // coordinate's y.
     pub(crate) fn pass_edge(&self, start: GridPoint, end: GridPoint) -> Passing
-        ensures { Passes result (record { p = read_point start; q = read_point end }) self.now.at }
+        ensures { Passes result (read_segment start end) self.now.at }
     {
         if !self.is_reached(start, end) {
             return Passing::Clear;

@@ -1,29 +1,16 @@
 -- Line strings by the points that they are read from.
-use Rattle.std.proofs.Common.{◌≡◌, ℕ, ◌+◌, ◌-◌, ◌<◌, ◌≤◌, ◌⊎◌, List, [], ◌∷◌, length, get_or, drop, pos, sym, refl, ap, ◌∙◌, subst, inl, inr, arith}
+use Rattle.std.proofs.Common.{◌≡◌, ℕ, ◌-◌, ◌<◌, ◌≤◌, ◌⊎◌, List, [], ◌∷◌, length, get_or, drop, pos, sym, refl, ap, ◌∙◌, subst, inl, inr, arith}
 use Rattle.std.specs.List.{AllByRecursion}
-use Rattle.std.proofs.lemmas.List.{at_drop_more, at_drop_all}
 use Rattle.plane.specs.declared.grid_point.GridPoint.{GridPoint}
-use Rattle.plane.specs.Points.{Segment}
 use Rattle.plane.specs.Reach.{read_point}
 use Rattle.plane.specs.Reflects.{Iff}
 use Rattle.plane.specs.Sets.{At}
 use Rattle.plane.proofs.Segments.{at_self}
 use Rattle.plane.proofs.Containment.{at_is}
-use Rattle.polyline.specs.Strings.{vertices, chain, last, Closed, AllEqual, AtEnd}
+use Rattle.polyline.specs.Strings.{vertices, last, Closed, AllEqual, AtEnd}
 
 abbrev pub origin : GridPoint
 origin = record { x = pos 0; y = pos 0 }
-
--- ---- the segments that a loop over the points has left, for whatever F works out of them
-
-module _ {Y : Type 0} (F : List Segment → Y) where
-  -- at the next
-  pub chain_more : (v : GridPoint) (qs : List GridPoint) (i : ℕ) → i < length qs → F (chain v (vertices (drop i qs))) ≡ F (record { p = v; q = read_point (get_or qs i origin) } ∷ chain (read_point (get_or qs i origin)) (vertices (drop (i + 1) qs)))
-  chain_more v qs i h = at_drop_more (λ (rs : List GridPoint). F (chain v (vertices rs))) qs i origin h
-
-  -- after the last
-  pub chain_ends : (v : GridPoint) (qs : List GridPoint) (i : ℕ) → length qs ≤ i → F (chain v (vertices (drop i qs))) ≡ F []
-  chain_ends v qs i h = at_drop_all (λ (rs : List GridPoint). F (chain v (vertices rs))) qs i h
 
 -- ---- the first point and the last
 

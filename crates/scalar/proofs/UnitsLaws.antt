@@ -5,9 +5,10 @@ use Rattle.std.specs.Prelude.{int_lt, unwrap_or}
 use Rattle.std.specs.Int.{int_min, int_max}
 use Rattle.std.specs.declared.cmp.Ordering.{Ordering}
 use Rattle.std.specs.declared.cmp.Ordering.TheVariants.{Less, Equal, Greater}
-use Rattle.std.specs.Ordering.{int_cmp, is_lt, is_le, is_some_and, partial_le, partial_lt, ord_min, ord_max, MatchOrdering}
+use Rattle.std.specs.Ordering.{int_cmp, is_lt, is_le, is_eq, is_some_and, partial_le, partial_lt, ord_min, ord_max, MatchOrdering}
 use Rattle.std.specs.Cmp.{int_ranks}
 use Rattle.plane.specs.Reflects.{Reflects}
+use Rattle.plane.proofs.Answers.{reflects_same}
 
 is_less : (x y : ℤ) → is_lt (int_cmp x y) ≡ int_lt x y
 is_less x y = by_tests (int_lt x y) (int_lt y x)
@@ -26,6 +27,11 @@ at_least_by : (o : Ordering) (u v : ℤ) → MatchOrdering o (u <ℤ v) (u ≡ v
 at_least_by Less u v h = λ k. omega (arith, ints)
 at_least_by Equal u v h = omega (arith, ints)
 at_least_by Greater u v h = omega (arith, ints)
+
+equal_by : (o : Ordering) (u v : ℤ) → MatchOrdering o (u <ℤ v) (u ≡ v) (v <ℤ u) → Reflects (is_eq o) (u ≡ v)
+equal_by Less u v h = λ k. omega (arith, ints)
+equal_by Equal u v h = h
+equal_by Greater u v h = λ k. omega (arith, ints)
 
 chosen : {A : Type 0} (f : A → ℤ) (r : Bool) (a b : A) → f (cond r a b) ≡ cond r (f a) (f b)
 chosen f true a b = refl
@@ -59,3 +65,10 @@ module _ {V : Type 0} (units : V → ℤ) (partial : V → V → Option Ordering
 
   pub min_below_max : (r s a b : V) → r ≡ ord_min cmp a b → s ≡ ord_max cmp a b → units r ≤ℤ units s
   min_below_max r s a b e f = omega (arith, ints, clamps, units_min r a b e, units_max s a b f)
+
+  -- what `==` answers, where equal units make equal numbers
+  pub equal_reflects : (equal : V → V → Bool) → ((x y : V) → equal x y ≡ is_eq (cmp x y)) → ((x y : V) → units x ≡ units y → x ≡ y) → (r : Bool) (x y : V) → r ≡ equal x y → Reflects r (x ≡ y)
+  equal_reflects equal agrees same r x y e =
+      subst (λ (o : Bool). Reflects o (x ≡ y)) (sym (e ∙ agrees x y ∙ ap is_eq (cmp_units x y)))
+      (reflects_same (is_eq (int_cmp (units x) (units y))) (same x y) (ap units)
+      (equal_by (int_cmp (units x) (units y)) (units x) (units y) (int_ranks (units x) (units y))))

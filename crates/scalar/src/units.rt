@@ -9,6 +9,7 @@ pub trait Units: Copy + Ord {
     // what a number means, in units of 1/256 millimetre
     ghost units: { Self → ℤ };
 
+    // the order of two numbers is that of their units
     ghost ordered: { (x y : Self) → Self.PartialOrd.partial_cmp x y ≡ Some (int_cmp (units x) (units y)) };
 }
 
