@@ -18,7 +18,7 @@ pub(crate) fn range_within<V: Units>(min: V, max: V, outer_min: V, outer_max: V)
     outer_min <= min && max <= outer_max
 }
 
-// Whether the range from min to max reaches past both ends of the outer one into its inside.
+// Whether the range from min to max ends above the low end of the outer one and begins below its high end.
 pub(crate) fn range_reaches_into<V: Units>(min: V, max: V, outer_min: V, outer_max: V) -> bool
     ensures { Reflects result ((V.units outer_min <ℤ V.units max) × (V.units min <ℤ V.units outer_max)) }
 {

@@ -30,6 +30,14 @@ product_fits a b h k = omega (arith, ints, product_within a b h k)
 pub cross_fits : (z : ℤ) → AtMostTwoTo61 z → SFits w64 z
 cross_fits z h = omega (arith, ints)
 
+-- a product of two differences, as the machine passes it on
+pub product_passed : (a b : ℤ) → Difference a → Difference b → to_z w64 (of_z w64 (to_z w64 (of_z w64 a) *ℤ to_z w64 (of_z w64 b))) ≡ a *ℤ b
+product_passed a b h k =
+    let f = difference_fits a h in
+    let g = difference_fits b k in
+    let p = product_fits a b h k in
+    simp to_z-of_z
+
 -- a difference of two numbers that mean u and v, as the machine passes it on
 pub units_apart : (r x y u v : ℤ) → SFits w64 r → SFits w32 x → SFits w32 y → r ≡ to_z w32 (of_z w32 x) -ℤ to_z w32 (of_z w32 y) → x ≡ u → y ≡ v → to_z w64 (of_z w64 r) ≡ u -ℤ v
 units_apart r x y u v f g h e p q = to_z-of_z w64 r f ∙ e ∙ (λ i. to_z-of_z w32 x g i -ℤ to_z-of_z w32 y h i) ∙ (λ i. p i -ℤ q i)

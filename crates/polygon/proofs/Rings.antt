@@ -1,11 +1,10 @@
 -- Rings: the count of the edges that pass a grid point, and what a position says.
-use Rattle.std.proofs.Common.{Bor, Some, ◌≤◌, get_or, take, drop, length-drop, ◌≡◌, ℕ, ◌+◌, Bool, true, false, cond, List, [], ◌∷◌, length, ℤ, pos, negsuc, ◌+ℤ◌, ◌-ℤ◌, sym, ap, ◌∙◌, subst, ap₂, arith}
+use Rattle.std.proofs.Common.{Bor, Some, ◌≤◌, take, drop, length-drop, ◌≡◌, ℕ, ◌+◌, Bool, true, false, cond, List, [], ◌∷◌, length, ℤ, pos, negsuc, ◌+ℤ◌, ◌-ℤ◌, sym, ap, ◌∙◌, subst, ap₂, arith}
 use Rattle.std.specs.declared.slice.Windows.{Windows}
 use Rattle.std.specs.Slice.Iter.{windows_rest, windows_size, windows_steps}
 use Rattle.std.proofs.lemmas.Int.{ints}
 use Rattle.plane.specs.declared.grid_point.GridPoint.{GridPoint}
 use Rattle.plane.specs.Points.{Segment}
-use Rattle.plane.specs.Reach.{read_point}
 use Rattle.plane.specs.Reflects.{Reflects}
 use Rattle.plane.specs.Sets.{At}
 use Rattle.plane.proofs.Answers.{reflects_same, or_rest}
@@ -15,7 +14,7 @@ use Rattle.polyline.specs.Strings.{vertices, chain, segments, OnString}
 use Rattle.polyline.specs.Tests.{is_zero, same, touches, touches_any}
 use Rattle.polyline.specs.Winding.{crossing, winding}
 use Rattle.polyline.proofs.Tests.{zero_reflects, same_reflects, touches_any_reflects}
-use Rattle.polyline.proofs.Chains.{origin}
+use Rattle.polyline.proofs.Neighbours.{first_two, first_window}
 use Rattle.coordinate_position.specs.declared.position.CoordPos.{CoordPos}
 use Rattle.coordinate_position.specs.declared.position.CoordPos.TheVariants.{OnBoundary, Inside, Outside}
 use Rattle.polygon.specs.declared.passing.Passing.TheVariants.{Upward, Downward, Clear}
@@ -46,11 +45,9 @@ module _ (c : GridPoint) (e : Segment) (es all : List Segment) (u d : ℕ) (n : 
   pub count_clear : Passes Clear e c → Counted c u d es all
   count_clear t = count_more (pos 0) u d t.0 t.1 (omega (arith, ints))
 
--- the first edge is that of the first two points
-first_edge : (ps w rest : List GridPoint) → 2 ≤ length ps → w ≡ take 2 ps → rest ≡ drop 1 ps → segments (vertices ps) ≡ record { p = read_point (get_or w 0 origin); q = read_point (get_or w 1 origin) } ∷ segments (vertices rest)
-first_edge [] w rest h e f = absurd (omega arith)
-first_edge (p ∷ []) w rest h e f = absurd (omega arith)
-first_edge (p ∷ (q ∷ ps)) w rest h e f = ap₂ (λ (w rest : List GridPoint). record { p = read_point (get_or w 0 origin); q = read_point (get_or w 1 origin) } ∷ segments (vertices rest)) (sym e) (sym f)
+-- the first edge is that of the first two points, as a window has them
+first_edge : (ps w rest : List GridPoint) → 2 ≤ length ps → w ≡ take 2 ps → rest ≡ drop 1 ps → segments (vertices ps) ≡ first_two w ∷ segments (vertices rest)
+first_edge ps w rest h e f = first_window ps h ∙ ap₂ (λ (w rest : List GridPoint). first_two w ∷ segments (vertices rest)) (sym e) (sym f)
 
 -- the count of the edges between neighbours, before the windows that are left
 pub record CountedWindows (c : GridPoint) (up down : ℕ) (left : Windows GridPoint) (points : List GridPoint) : Type 0 where
@@ -62,7 +59,7 @@ pub record CountedWindows (c : GridPoint) (up down : ℕ) (left : Windows GridPo
 module _ (c : GridPoint) (u d : ℕ) (left next : Windows GridPoint) (w : Bor (List GridPoint)) (points : List GridPoint) (n : CountedWindows c u d left points) (t : windows_steps left (Some w) next) where
   -- the edge of the window
   abbrev edge : Segment
-  edge = record { p = read_point (get_or w.now 0 origin); q = read_point (get_or w.now 1 origin) }
+  edge = first_two w.now
 
   counted_next : Counted c u d (edge ∷ segments (vertices (windows_rest next))) (segments (vertices points))
   counted_next = subst (λ (es : List Segment). Counted c u d es (segments (vertices points))) next_edge n.counted

@@ -20,7 +20,7 @@ few [] h = refl
 few (p ∷ []) h = refl
 few (p ∷ (q ∷ qs)) h = absurd (omega arith)
 
-first_window : (ps : List GridPoint) → 2 ≤ length ps → segments (vertices ps) ≡ first_two (take 2 ps) ∷ segments (vertices (drop 1 ps))
+pub first_window : (ps : List GridPoint) → 2 ≤ length ps → segments (vertices ps) ≡ first_two (take 2 ps) ∷ segments (vertices (drop 1 ps))
 first_window [] h = absurd (omega arith)
 first_window (p ∷ []) h = absurd (omega arith)
 first_window (p ∷ (q ∷ qs)) h = refl
