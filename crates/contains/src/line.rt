@@ -53,8 +53,13 @@ impl<'a, T: GeoNum> Contains<LineString<'a, T>> for Line<T> {
         let [first, ..] = line_string.points else {
             return false;
         };
+        let first = Coord::from_grid(*first);
+        // Nothing else is read if it does not touch, however many vertices equal it.
+        if !self.intersects(&first) {
+            return false;
+        }
         if line_string.all_equal() {
-            self.contains(&Coord::from_grid(*first))
+            self.contains(&first)
         } else {
             line_string
                 .points

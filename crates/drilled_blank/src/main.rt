@@ -5,7 +5,7 @@
 use coordinate_position::CoordinatePosition;
 use coordinate_position::position::CoordPos;
 use kernel::geo_num::GeoNum;
-use keyed_corners::{OUTLINE, grid_corners, print_corners};
+use keyed_corners::{OUTLINE, take_corners};
 use line_strings::line_string::LineString;
 use plane::grid_point::GridPoint;
 use polygon::fault::RingFault;
@@ -104,14 +104,11 @@ impl Blank<'_> {
 
 fn main(rt: HostRuntime) -> io::Result<()> {
     println!(rt; "Outline of the blank, as keyed in:")?;
-    print_corners(&rt, &OUTLINE)?;
+    let outline = take_corners(&rt, rt.alloc(), &OUTLINE)?;
     println!(rt; "Corners of the window, as keyed in:")?;
-    print_corners(&rt, &WINDOW)?;
+    let mut window = take_corners(&rt, rt.alloc(), &WINDOW)?;
     println!(rt; "Where holes are to be drilled:")?;
-    print_corners(&rt, &DRILLS)?;
-    let outline = grid_corners(rt.alloc(), &OUTLINE)?;
-    let mut window = grid_corners(rt.alloc(), &WINDOW)?;
-    let drills = grid_corners(rt.alloc(), &DRILLS)?;
+    let drills = take_corners(&rt, rt.alloc(), &DRILLS)?;
     println!(rt; "The first of them, while the window is open:")?;
     let open = Blank {
         outline: &outline,

@@ -36,16 +36,15 @@ impl<T: CoordNum> Rect<T> {
         ensures corners { box T.units result ≡ spanned (grid_point T.units a) (grid_point T.units b) }
         ensures sorted { (grid_point T.units result.min ≡ (spanned (grid_point T.units a) (grid_point T.units b)).min) × (grid_point T.units result.max ≡ (spanned (grid_point T.units a) (grid_point T.units b)).max) }
     {
-        Rect {
-            min: Coord {
-                x: a.x.min(b.x),
-                y: a.y.min(b.y),
-            },
-            max: Coord {
-                x: a.x.max(b.x),
-                y: a.y.max(b.y),
-            },
-        }
+        let min = Coord {
+            x: a.x.min(b.x),
+            y: a.y.min(b.y),
+        };
+        let max = Coord {
+            x: a.x.max(b.x),
+            y: a.y.max(b.y),
+        };
+        Rect { min, max }
     }
 
     pub fn min(&self) -> Coord<T>

@@ -1,4 +1,4 @@
-use keyed_corners::{grid_corner, grid_corners};
+use keyed_corners::{grid_corner, grid_corners, take_corners};
 use plane::grid_point::GridPoint;
 use scalar::fault::F64Fault;
 use std::test::Fail;
@@ -12,6 +12,14 @@ fn a_keyed_corner_lies_on_the_grid_or_is_refused(rt: HostRuntime) {
 #[test]
 fn keyed_corners_off_the_grid_are_left_out(rt: HostRuntime) -> Result<(), Fail> {
     let corners = grid_corners(rt.alloc(), &[(1.0, 2.0), (0.001, 0.0), (0.0, -1.0)])?;
+    let expected = [GridPoint { x: 256, y: 512 }, GridPoint { x: 0, y: -256 }];
+    assert_eq!(rt; corners.as_slice(), expected.as_slice());
+    Ok(())
+}
+
+#[test]
+fn taken_corners_off_the_grid_are_left_out(rt: HostRuntime) -> Result<(), Fail> {
+    let corners = take_corners(&rt, rt.alloc(), &[(1.0, 2.0), (0.001, 0.0), (0.0, -1.0)])?;
     let expected = [GridPoint { x: 256, y: 512 }, GridPoint { x: 0, y: -256 }];
     assert_eq!(rt; corners.as_slice(), expected.as_slice());
     Ok(())

@@ -138,6 +138,19 @@ fn printed_coordinates(rt: HostRuntime) -> Result<(), Fail> {
 }
 
 #[test]
+fn shown_scalars(rt: HostRuntime) -> Result<(), Fail> {
+    let half = F64Scalar::from_units(128);
+    let seven = I32Scalar::from_units(-7);
+    let in_millimetres = format!(in rt.alloc(); "{half:?}")?;
+    let on_lines = format!(in rt.alloc(); "{half:#?}")?;
+    let in_units = format!(in rt.alloc(); "{seven:?}")?;
+    assert_eq!(rt; in_millimetres.as_str(), "F64Scalar { value: 0.5 }");
+    assert_eq!(rt; on_lines.as_str(), "F64Scalar {\n    value: 0.5,\n}");
+    assert_eq!(rt; in_units.as_str(), "I32Scalar { value: -7 }");
+    Ok(())
+}
+
+#[test]
 fn printed_faults(rt: HostRuntime) -> Result<(), Fail> {
     let nan = F64Fault::NotANumber.to_string(rt.alloc())?;
     let far = F64Fault::BeyondReach(2097152.5).to_string(rt.alloc())?;

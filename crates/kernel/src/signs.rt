@@ -40,11 +40,17 @@ pub(crate) fn orientation_of(d: i64) -> Orientation
     }
 }
 
-// The sign of a * b, without multiplying the two: -1, 0 or 1.
+// The sign of a * b, without multiplying: -1, 0 or 1.
 fn product_sign(a: i64, b: i64) -> i64
     ensures { result ≡ int_signum (a *ℤ b) }
 {
-    a.signum() * b.signum()
+    if a > 0 {
+        b.signum()
+    } else if a < 0 {
+        -b.signum()
+    } else {
+        0
+    }
 }
 
 impl Factors {

@@ -44,16 +44,28 @@ pub fn grid_corners(alloc: Global, keyed: &[(f64, f64)]) -> Result<Vec<GridPoint
         .collect(alloc)
 }
 
-// Prints where each corner lies, or what it is refused with.
-pub fn print_corners(rt: &impl Print, keyed: &[(f64, f64)]) -> io::Result<()> {
-    for (x, y) in keyed {
-        match grid_corner(*x, *y) {
-            Ok(p) => println!(rt; "  ({x}, {y}) mm lies at ({}, {}) units", p.x, p.y)?,
+// Prints where each corner lies, or what it is refused with, and keeps those that are on the grid, in their order. A
+// corner is kept before its line is printed: where memory runs out, the line before it is the last.
+pub fn take_corners(
+    rt: &impl Print,
+    alloc: Global,
+    keyed: &[(f64, f64)],
+) -> io::Result<Vec<GridPoint>>
+    ensures { IfOk result (λ v. v.items ≡ filter_map corner_of keyed.now) }
+{
+    let mut corners = Vec::new(alloc);
+    for corner in keyed {
+        let (x, y) = *corner;
+        match grid_corner(x, y) {
+            Ok(p) => {
+                corners.push(p)?;
+                println!(rt; "  ({x}, {y}) mm lies at ({}, {}) units", p.x, p.y)?;
+            }
             Err(fault) => println!(rt;
                 "  ({x}, {y}) mm is refused with {}: {fault}",
                 fault.number()
             )?,
         }
     }
-    Ok(())
+    Ok(corners)
 }

@@ -6,7 +6,7 @@ use contains::Contains;
 use geometry::rect::Rect;
 use intersects::Intersects;
 use kernel::geo_num::GeoNum;
-use keyed_corners::{OUTLINE, grid_corners, print_corners};
+use keyed_corners::{OUTLINE, take_corners};
 use line_strings::line_string::LineString;
 use plane::grid_point::GridPoint;
 use scalar::coord::Coord;
@@ -91,11 +91,9 @@ fn main(rt: HostRuntime) -> io::Result<()> {
         print_length(&rt, x)?;
     }
     println!(rt; "Outline of the blank, as keyed in:")?;
-    print_corners(&rt, &OUTLINE)?;
+    let outline = take_corners(&rt, rt.alloc(), &OUTLINE)?;
     println!(rt; "Corners of the clamp, as keyed in:")?;
-    print_corners(&rt, &CLAMP)?;
-    let outline = grid_corners(rt.alloc(), &OUTLINE)?;
-    let clamped = grid_corners(rt.alloc(), &CLAMP)?;
+    let clamped = take_corners(&rt, rt.alloc(), &CLAMP)?;
     let &[a, b, ..] = clamped.as_slice() else {
         return println!(rt; "The clamp has no two corners on the grid");
     };

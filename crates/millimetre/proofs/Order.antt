@@ -67,6 +67,10 @@ is_number nan t = absurd t
 is_number (inf s) t = refl
 is_number (fin s m e) t = refl
 
+-- of two numbers, which is the smaller is all that a comparison asks
+pub number_cmp : (x y : Float) → T (on_grid x) → T (on_grid y) → nan_last_cmp x y ≡ cond (lt x y) Less (cond (lt y x) Greater Equal)
+number_cmp x y s t = λ i. cond (is_number x s i) (cond (is_nan y) Equal Greater) (cond (is_number y t i) Less (cond (lt x y) Less (cond (lt y x) Greater Equal)))
+
 -- floats on the grid are ordered as their units
 pub ordered_as_units : (x y : Float) → T (on_grid x) → T (on_grid y) → nan_last_cmp x y ≡ int_cmp (units_of x) (units_of y)
 ordered_as_units x y s t =

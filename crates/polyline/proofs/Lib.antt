@@ -1,6 +1,7 @@
 pub mod Pigeonhole
 pub mod Gap
 pub mod Tests
+pub mod Reading
 pub mod Trimming
 pub mod Strings
 pub mod Chains

@@ -62,6 +62,11 @@ equal_longer : (P : Segment → Type 0) (ps : List GridPoint) → AllEqual (vert
 equal_longer P [] a = tt
 equal_longer P (p ∷ ps) a = none_longer P (read_point p) (vertices ps) a
 
+-- the first vertex touches a segment that contains the line string
+pub first_touches : (s : Segment) (ps : List GridPoint) → 1 ≤ length ps → SegmentContainsString s (vertices ps) → Touches s (read_point (get_or ps 0 origin))
+first_touches s [] l h = absurd (omega (arith, l))
+first_touches s (p ∷ ps) l h = h.touch.0
+
 module _ (ps : List GridPoint) (l : 1 ≤ length ps) where
   -- all are equal: the first decides; else all have to touch
   pub equal_in_segment : (s : Segment) → AllEqual (vertices ps) → Iff (Interior s (read_point (get_or ps 0 origin)).x (read_point (get_or ps 0 origin)).y 1) (SegmentContainsString s (vertices ps))

@@ -20,7 +20,7 @@ use Rattle.plane.proofs.Orientations.{det_side}
 use Rattle.plane.proofs.Answers.{reflects_same, decides_reflects, and_reflects}
 use Rattle.polyline.specs.Tests.{collinear}
 use Rattle.polyline.specs.Segments.{OnAny, Covered}
-use Rattle.polyline.specs.Trimming.{is_vertical, ordered, span, trimmed, along, trim_by, round, rounds, trims_all}
+use Rattle.polyline.specs.Trimming.{is_vertical, ordered, span, apart, trimmed, along, trim_by, round, rounds, trims_all}
 use Rattle.polyline.proofs.Tests.{le_tells, lt_tells, zero_reflects, same_number_reflects}
 use Rattle.polyline.proofs.Gap.{Clear, open_gap}
 use Rattle.polyline.proofs.Strings.{each_covered}
@@ -173,6 +173,14 @@ trim_cases s t l h = go (along s t) (along_reflects s t)
     go true g = inl (g, trim_case l (span (is_vertical s) t) h)
     go false n = inr (n, refl)
 
+-- a segment whose span has at most an end in common with the stretch leaves it, wherever it lies
+pub apart_stays : (s : Segment) (l : ℤ × ℤ) (t : Segment) (c : ℤ × ℤ) → c ≡ span (is_vertical s) t → apart l c ≡ true → trim_by s l t ≡ l
+apart_stays s l t c e a = go (along s t)
+  where
+    go : (b : Bool) → cond b (trimmed l (span (is_vertical s) t)) l ≡ l
+    go true = ap (λ (z : ℤ × ℤ). trimmed l z) (sym e) ∙ ap (λ (b : Bool). cond b l (cond (le_z c.0 l.0) (cond (le_z l.1 c.1) (l.1, l.1) (c.1, l.1)) (cond (le_z l.1 c.1) (l.0, c.0) l))) a
+    go false = refl
+
 pair_same : (l r : ℤ × ℤ) → l.0 ≡ r.0 → l.1 ≡ r.1 → l ≡ r
 pair_same l r e f = λ i. (e i, f i)
 
@@ -321,6 +329,9 @@ abs_falls (pos a) (pos b) h k = omega (arith, ints)
 abs_falls (pos a) (negsuc b) h k = absurd (omega (arith, ints))
 abs_falls (negsuc a) b h k = absurd (omega (arith, ints))
 
+pub trimming_falls : (ts : List Segment) (s : Segment) (l r : ℤ × ℤ) → l.0 ≤ℤ l.1 → r ≡ round s l ts → r.0 <ℤ r.1 → (l.0 <ℤ r.0) ⊎ (r.1 <ℤ l.1) → nat_abs (r.1 -ℤ r.0) < nat_abs (l.1 -ℤ l.0)
+trimming_falls ts s l r h e k d = let w = next_narrowed ts s l r h e in abs_falls (r.1 -ℤ r.0) (l.1 -ℤ l.0) (omega (arith, lin)) (omega (arith, lin))
+
 -- a round changes nothing, or the stretch gets shorter
 pub round_same : (ts : List Segment) (s : Segment) (l : ℤ × ℤ) → Trimming ts s l → l.0 <ℤ l.1 → (round s l ts ≡ l) ⊎ (nat_abs ((round s l ts).1 -ℤ (round s l ts).0) < nat_abs (l.1 -ℤ l.0))
 round_same ts s l k h =
@@ -332,8 +343,9 @@ round_same ts s l k h =
     narrower : (l r : ℤ × ℤ) → l.0 <ℤ l.1 → Narrowed l r → (l.0 <ℤ r.0) ⊎ (r.1 <ℤ l.1) → nat_abs (r.1 -ℤ r.0) < nat_abs (l.1 -ℤ l.0)
     narrower l r h w d = abs_falls (r.1 -ℤ r.0) (l.1 -ℤ l.0) (omega (arith, lin)) (omega (arith, lin))
 
-pub trimming_falls : (ts : List Segment) (s : Segment) (l r : ℤ × ℤ) → Trimming ts s l → l.0 <ℤ l.1 → r ≡ round s l ts → (r ≡ l → ⊥) → nat_abs (r.1 -ℤ r.0) < nat_abs (l.1 -ℤ l.0)
-trimming_falls ts s l r k h e n =
+-- a round that changes something leaves a shorter stretch
+pub trimming_changed : (ts : List Segment) (s : Segment) (l r : ℤ × ℤ) → Trimming ts s l → l.0 <ℤ l.1 → r ≡ round s l ts → (r ≡ l → ⊥) → nat_abs (r.1 -ℤ r.0) < nat_abs (l.1 -ℤ l.0)
+trimming_changed ts s l r k h e n =
     elim (round_same ts s l k h) [
       | inl f ↦ absurd (n (e ∙ f))
       | inr f ↦ subst (λ (z : ℤ × ℤ). nat_abs (z.1 -ℤ z.0) < nat_abs (l.1 -ℤ l.0)) (sym e) f

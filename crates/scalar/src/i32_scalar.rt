@@ -63,6 +63,6 @@ impl CoordNum for I32Scalar {
 // Its units.
 impl fmt::Display for I32Scalar {
     fn fmt<W: fmt::Write>(&self, f: &mut fmt::Formatter<W>) -> fmt::Result {
-        fmt::Display::fmt(&self.value, f)
+        fmt::Display::fmt(&self.raw(), f)
     }
 }

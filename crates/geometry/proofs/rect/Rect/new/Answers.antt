@@ -1,14 +1,19 @@
+use Rattle.std.proofs.Common.{arith}
+use Rattle.std.proofs.lemmas.Int.{ints, clamps}
 use Rattle.scalar.specs.Coords.{grid_point}
-use Rattle.scalar.proofs.UnitsLaws.{units_min, units_max, min_below_max}
+use Rattle.scalar.proofs.UnitsLaws.{units_min, units_max}
 use Rattle.geometry.proofs.RectLaws.{spanned_again}
 use Rattle.geometry.proofs.rect.Rect.new.Goals as goal
 
+-- by what each corner's two numbers are, so that a corner taken otherwise fails at what it is
 pub invariant_of-result : goal.invariant_of-result
 invariant_of-result g c =
-    let below = min_below_max g.T.Units.units g.T.PartialOrd.partial_cmp g.T.Ord.cmp g.met.T.Ord.matches_partial_cmp g.met.T.Units.ordered in
+    let u = g.T.Units.units in
+    let lesser = units_min u g.T.PartialOrd.partial_cmp g.T.Ord.cmp g.met.T.Ord.matches_partial_cmp g.met.T.Units.ordered in
+    let greater = units_max u g.T.PartialOrd.partial_cmp g.T.Ord.cmp g.met.T.Ord.matches_partial_cmp g.met.T.Units.ordered in
     record {
-      left_to_right = below c.min.result c.max.result c.args.a.x c.args.b.x c.min.ensures c.max.ensures;
-      bottom_to_top = below c.min-2.result c.max-2.result c.args.a.y c.args.b.y c.min-2.ensures c.max-2.ensures;
+      left_to_right = omega (arith, ints, clamps, lesser _ _ _ c.min.ensures, greater _ _ _ c.max.ensures);
+      bottom_to_top = omega (arith, ints, clamps, lesser _ _ _ c.min-2.ensures, greater _ _ _ c.max-2.ensures);
     }
 
 pub returns : goal.returns

@@ -1,7 +1,7 @@
 use Rattle.std.proofs.Common.{true, false, arith, rules}
 use Rattle.std.proofs.lemmas.Int.{ints}
 use Rattle.polyline.specs.Strings.{vertices, segments}
-use Rattle.polyline.proofs.Trimming.{trimming_begins, trimming_next, trimming_done, trimming_unchanged, trimming_falls, pair_tells}
+use Rattle.polyline.proofs.Trimming.{trimming_begins, trimming_next, trimming_done, trimming_unchanged, trimming_changed, pair_tells}
 use Rattle.geometry.specs.Shapes.{segment}
 use Rattle.line_strings.proofs.trimming.Target.is_covered_by.Goals as goal
 
@@ -22,7 +22,7 @@ returns-then-eq g c =
 pub loop-left-smaller : goal.loop-left-smaller
 loop-left-smaller g c =
     let e = pair_tells false c.trim_round-next.result c.loop-left.left c.if-eq.ensures in
-    search (rules, trimming_falls)
+    search (rules, trimming_changed)
 
 pub loop-left-preserved : goal.loop-left-preserved
 loop-left-preserved g c = search (rules, ints, trimming_next)

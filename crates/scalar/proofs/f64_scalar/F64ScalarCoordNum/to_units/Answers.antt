@@ -8,17 +8,15 @@ use Rattle.scalar.proofs.f64_scalar.F64ScalarCoordNum.to_units.Goals as goal
 
 pub float_to_int-result : goal.float_to_int-result
 float_to_int-result c =
-    let s = c.args.self in
-    let x = s.value.0 in
-    let k = on_grid_means x s.grid in
-    subst (λ (z : Float). T (in_signed binary64 31 (mul binary64 x z))) (sym k256_is) (cast_is x (units_of x) s.binary64 k.0 k.1).0
+    let x = c.args.self in
+    let k = on_grid_means x.value x.grid in
+    subst (λ (z : Float). T (in_signed binary64 31 (mul binary64 x.value z))) (sym k256_is) (cast_is x.value (units_of x.value) x.binary64 k.0 k.1).0
 
 pub returns : goal.returns
 returns c =
-    let s = c.args.self in
-    let x = s.value.0 in
-    let k = on_grid_means x s.grid in
-    let y = mul binary64 x (of_bits binary64 4643211215818981376) in
+    let x = c.args.self in
+    let k = on_grid_means x.value x.grid in
+    let y = mul binary64 x.value (of_bits binary64 4643211215818981376) in
     to_z-of_z w32 (to_signed 31 y) (record { sfits = to_signed_in 31 y })
-    ∙ ap (λ (z : Float). to_signed 31 (mul binary64 x z)) k256_is
-    ∙ (cast_is x (units_of x) s.binary64 k.0 k.1).1
+    ∙ ap (λ (z : Float). to_signed 31 (mul binary64 x.value z)) k256_is
+    ∙ (cast_is x.value (units_of x.value) x.binary64 k.0 k.1).1
