@@ -1,6 +1,10 @@
-use keyed_corners::{grid_corner, grid_corners, take_corners};
+use keyed_corners::{grid_corner, grid_corners, print_corners, take_corners};
 use plane::grid_point::GridPoint;
 use scalar::fault::F64Fault;
+use std::alloc::Global;
+use std::cell::{Cell, RefCell};
+use std::fmt::Display;
+use std::io::{self, ErrorKind, Write};
 use std::test::Fail;
 
 #[test]
@@ -22,5 +26,76 @@ fn taken_corners_off_the_grid_are_left_out(rt: HostRuntime) -> Result<(), Fail> 
     let corners = take_corners(&rt, rt.alloc(), &[(1.0, 2.0), (0.001, 0.0), (0.0, -1.0)])?;
     let expected = [GridPoint { x: 256, y: 512 }, GridPoint { x: 0, y: -256 }];
     assert_eq!(rt; corners.as_slice(), expected.as_slice());
+    Ok(())
+}
+
+// A page that keeps what is printed on it, and refuses more lines than it has.
+#[derive(Drop)]
+struct Page {
+    text: RefCell<Vec<u8>>,
+    lines_left: Cell<usize>,
+}
+
+impl Page {
+    fn new(alloc: Global, lines: usize) -> Page {
+        Page {
+            text: RefCell::new(Vec::new(alloc)),
+            lines_left: Cell::new(lines),
+        }
+    }
+}
+
+impl Print for Page {
+    fn print<D: Display + Drop>(&self, value: D) -> io::Result<()> {
+        match self.text.try_borrow_mut() {
+            Ok(mut text) => write!(text, "{value}"),
+            Err(_) => Err(ErrorKind::Other.into()),
+        }
+    }
+
+    fn println<D: Display + Drop>(&self, value: D) -> io::Result<()> {
+        let Some(left) = self.lines_left.get().checked_sub(1) else {
+            return Err(ErrorKind::WriteZero.into());
+        };
+        self.lines_left.set(left);
+        self.print(value)?;
+        self.write_all(b"\n")
+    }
+
+    fn write_all(&self, bytes: &[u8]) -> io::Result<()> {
+        match self.text.try_borrow_mut() {
+            Ok(mut text) => text.write_all(bytes),
+            Err(_) => Err(ErrorKind::Other.into()),
+        }
+    }
+}
+
+const KEYED: [(f64, f64); 3] = [(1.0, 2.0), (0.001, 0.0), (0.0, -1.0)];
+
+const PRINTED: [&str; 3] = [
+    "  (1, 2) mm lies at (256, 512) units\n",
+    "  (0.001, 0) mm is refused with 3: 0.001 mm is off the grid\n",
+    "  (0, -1) mm lies at (0, -256) units\n",
+];
+
+#[test]
+fn printed_corners(rt: HostRuntime) -> Result<(), Fail> {
+    let page = Page::new(rt.alloc(), 3);
+    print_corners(&page, &KEYED)?;
+    let expected = PRINTED.concat(rt.alloc())?;
+    assert_eq!(rt; page.text.into_inner().as_slice(), expected.as_bytes());
+    Ok(())
+}
+
+// Each line is the last once, so that no later one can fail in its place.
+#[test]
+fn corners_are_printed_until_a_line_fails(rt: HostRuntime) -> Result<(), Fail> {
+    for lines in 0..KEYED.len() {
+        let page = Page::new(rt.alloc(), lines);
+        let printed = print_corners(&page, &KEYED[..lines + 1]);
+        assert!(rt; printed.is_err_and(|e| e.kind() == ErrorKind::WriteZero));
+        let expected = PRINTED[..lines].concat(rt.alloc())?;
+        assert_eq!(rt; page.text.into_inner().as_slice(), expected.as_bytes());
+    }
     Ok(())
 }

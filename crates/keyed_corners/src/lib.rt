@@ -1,7 +1,7 @@
 // Corners as they are keyed in, in millimetres, and the grid points at which they lie.
 #![tactic(auto)]
 
-ghost use Rattle.std.specs.Prelude.{◌≡◌, Some, IfOk, IfErr, filter_map};
+ghost use Rattle.std.specs.Prelude.{◌≡◌, [], Some, IsOk, IfOk, IfErr, filter_map};
 ghost use Rattle.std.specs.Result.{result_ok};
 ghost use Rattle.scalar.specs.Faults.{f64_fault};
 ghost use Rattle.keyed_corners.specs.Corners.{corner_of, corner_refusal};
@@ -42,6 +42,22 @@ pub fn grid_corners(alloc: Global, keyed: &[(f64, f64)]) -> Result<Vec<GridPoint
         .iter()
         .filter_map(|&(x, y)| grid_corner(x, y).ok())
         .collect(alloc)
+}
+
+// Prints where each corner lies, or what it is refused with. Nothing is kept, so only printing can fail.
+pub fn print_corners(rt: &impl Print, keyed: &[(f64, f64)]) -> io::Result<()>
+    ensures nothing_to_print { keyed.now ≡ [] → IsOk result }
+{
+    for (x, y) in keyed {
+        match grid_corner(*x, *y) {
+            Ok(p) => println!(rt; "  ({x}, {y}) mm lies at ({}, {}) units", p.x, p.y)?,
+            Err(fault) => println!(rt;
+                "  ({x}, {y}) mm is refused with {}: {fault}",
+                fault.number()
+            )?,
+        }
+    }
+    Ok(())
 }
 
 // Prints where each corner lies, or what it is refused with, and keeps those that are on the grid, in their order. A
