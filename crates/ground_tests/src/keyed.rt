@@ -29,23 +29,23 @@ fn taken_corners_off_the_grid_are_left_out(rt: HostRuntime) -> Result<(), Fail> 
     Ok(())
 }
 
-// A page that keeps what is printed on it, and refuses more lines than it has.
+// A printer that keeps what it prints, and fails once its lines are used up.
 #[derive(Drop)]
-struct Page {
+struct LimitedPrinter {
     text: RefCell<Vec<u8>>,
     lines_left: Cell<usize>,
 }
 
-impl Page {
-    fn new(alloc: Global, lines: usize) -> Page {
-        Page {
+impl LimitedPrinter {
+    fn new(alloc: Global, lines: usize) -> LimitedPrinter {
+        LimitedPrinter {
             text: RefCell::new(Vec::new(alloc)),
             lines_left: Cell::new(lines),
         }
     }
 }
 
-impl Print for Page {
+impl Print for LimitedPrinter {
     fn print<D: Display + Drop>(&self, value: D) -> io::Result<()> {
         match self.text.try_borrow_mut() {
             Ok(mut text) => write!(text, "{value}"),
@@ -80,10 +80,10 @@ const PRINTED: [&str; 3] = [
 
 #[test]
 fn printed_corners(rt: HostRuntime) -> Result<(), Fail> {
-    let page = Page::new(rt.alloc(), 3);
-    print_corners(&page, &KEYED)?;
+    let printer = LimitedPrinter::new(rt.alloc(), 3);
+    print_corners(&printer, &KEYED)?;
     let expected = PRINTED.concat(rt.alloc())?;
-    assert_eq!(rt; page.text.into_inner().as_slice(), expected.as_bytes());
+    assert_eq!(rt; printer.text.into_inner().as_slice(), expected.as_bytes());
     Ok(())
 }
 
@@ -91,11 +91,11 @@ fn printed_corners(rt: HostRuntime) -> Result<(), Fail> {
 #[test]
 fn corners_are_printed_until_a_line_fails(rt: HostRuntime) -> Result<(), Fail> {
     for lines in 0..KEYED.len() {
-        let page = Page::new(rt.alloc(), lines);
-        let printed = print_corners(&page, &KEYED[..lines + 1]);
+        let printer = LimitedPrinter::new(rt.alloc(), lines);
+        let printed = print_corners(&printer, &KEYED[..lines + 1]);
         assert!(rt; printed.is_err_and(|e| e.kind() == ErrorKind::WriteZero));
         let expected = PRINTED[..lines].concat(rt.alloc())?;
-        assert_eq!(rt; page.text.into_inner().as_slice(), expected.as_bytes());
+        assert_eq!(rt; printer.text.into_inner().as_slice(), expected.as_bytes());
     }
     Ok(())
 }
